@@ -96,7 +96,7 @@ def reached_from(roots):
         seen.add(item)
         if module.startswith("declared"):
             kind = re.sub(r"\.The\w+$", "", module).split(".")[-1]
-            its_name = name if kind == "declared" else kind
+            its_name = name if kind == "declared" or module.endswith(".TheConstants") else kind
             types[crate, its_name] = type_lines(crate, its_name)
         elif (file := files.get((crate, module))) and name in file.items:
             start, end = file.items[name]

@@ -26,7 +26,8 @@ by_entries bud companion target p places s entries rest =
 -- the map is made
 abbrev pub by_pairs : Judgement → Judgement → ℕ → ℕ → List ℕ → Bindings → List Bindings → List Link
 by_pairs bud companion target p places s rest =
-    below (λ t. by_entries bud companion target p places t [] (number_choices (disjuncts bud) (disjuncts companion))) s rest
+    below (λ t. by_entries bud companion target p places t [] (number_choices (disjuncts bud) (disjuncts companion)))
+    s rest
 
 -- nothing but the first places of the map is made
 abbrev pub by_places : Judgement → Judgement → ℕ → ℕ → List Term → List ℕ → List ℕ → List (List ℕ) → List Link

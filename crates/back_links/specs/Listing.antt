@@ -93,7 +93,8 @@ link_of target places s entries = record { target = target; subst = s; map = pla
 -- by map, then by substitution, then by disjuncts
 abbrev pub candidates : Judgement → Judgement → ℕ → List Link
 candidates bud companion target =
-    flat_map (λ places. flat_map (λ s. map (λ entries. link_of target places s entries) (covers bud companion)) (substitutions bud companion)) (maps bud companion)
+    flat_map (λ places. flat_map (λ s. map (λ entries. link_of target places s entries) (covers bud companion))
+    (substitutions bud companion)) (maps bud companion)
 
 -- the candidates without a fault; p is the number of program variables
 abbrev pub links : Judgement → Judgement → ℕ → ℕ → List Link

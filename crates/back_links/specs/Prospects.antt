@@ -1,5 +1,6 @@
 -- Whether choices that are made leave a link possible.
-use Rattle.std.specs.Prelude.{ℕ, List, [], ◌∷◌, ◌++◌, length, Bool, true, false, ◌&&◌, ◌||◌, not, nat_eq, nat_le, if◌then◌else◌, Option, Some, None, slice_get}
+use Rattle.std.specs.Prelude.{ℕ, List, [], ◌∷◌, ◌++◌, length, Bool, true, false, ◌&&◌, ◌||◌, not, nat_eq, nat_le}
+use Rattle.std.specs.Prelude.{if◌then◌else◌, Option, Some, None, slice_get}
 use Rattle.std.specs.List.{list_any, list_all}
 use Rattle.heap_formula.specs.declared.terms.Term.{Term}
 use Rattle.heap_formula.specs.declared.terms.Term.TheVariants.{Nil, Univ, Exist}
@@ -54,7 +55,8 @@ abbrev pub could_match_those : ℕ → List Pure → List Spatial → Bindings �
 could_match_those n pures atoms s [] xs = true
 could_match_those n pures atoms s (m ∷ ms) [] = true
 could_match_those n pures atoms s (m ∷ ms) (x ∷ xs) =
-    (not (stands_in_spatial n x) || could_match_some pures s x (slice_get atoms m)) && could_match_those n pures atoms s ms xs
+    (not (stands_in_spatial n x) || could_match_some pures s x (slice_get atoms m))
+    && could_match_those n pures atoms s ms xs
 
 abbrev pub both_known : (Term → Term → Pure) → Option Term → Option Term → Option Pure
 both_known f None u = None
@@ -126,15 +128,16 @@ could_stand pures atoms m (Some x) = could_match_some pures [] x (slice_get atom
 -- place m is free, and fits the companion's next atom
 abbrev pub could_take : Judgement → Judgement → List ℕ → ℕ → Bool
 could_take bud companion places m =
-    not (has_number places m) && could_stand (antecedent bud).pure (antecedent bud).spatial m (slice_get (antecedent companion).spatial (length places))
+    not (has_number places m) && could_stand (antecedent bud).pure (antecedent bud).spatial m
+    (slice_get (antecedent companion).spatial (length places))
 
 -- and the variables of the atom x have values left then
 abbrev pub could_place : Judgement → Judgement → ℕ → List Term → List ℕ → ℕ → Spatial → List ℕ → Bool
 could_place bud companion p values places m x sources =
     could_take bud companion places m && have_values bud companion p values (places ++ m ∷ []) x sources
 
--- two entailments have the same shapes on the left, and each disjunct of the companion has those of some disjunct of the bud;
--- two judgements on runs are of one line, and the bud has the companion's shapes
+-- two entailments have the same shapes on the left, and each disjunct of the companion has those of some disjunct of
+-- the bud; two judgements on runs are of one line, and the bud has the companion's shapes
 abbrev pub are_alike : Judgement → Judgement → Bool
 are_alike (Entail a bs) (Entail b cs) = same_shapes a.spatial b.spatial && list_all (some_has_shapes bs) cs
 are_alike (Entail a bs) (Runs k b) = false

@@ -1,11 +1,12 @@
 // Disjuncts of the companion that say at least what the bud's say.
 ghost use Rattle.std.specs.Prelude.{◌≡◌, ◌≤◌, ◌<◌, ◌&&◌, ◌||◌, map, length, slice_get, slice_index};
 ghost use Rattle.heap_formula.specs.Substitution.{apply_pure, apply_spatial, apply_heap};
-ghost use Rattle.rule_table.specs.LinkTable.{counts_agree, same_atoms as atoms_agree, all_follow as pures_follow, covers_some, disjunct_fault as first_disjunct_fault};
+ghost use Rattle.rule_table.specs.LinkTable.{counts_agree, same_atoms as atoms_agree, all_follow as pures_follow};
+ghost use Rattle.rule_table.specs.LinkTable.{covers_some, disjunct_fault as first_disjunct_fault};
 ghost use Rattle.rule_table.specs.RuleLink.{count_of};
 ghost use Rattle.rule_table.specs.Tests.{has_pure, follows};
 
-use cyc_limits::MOST_DISJUNCTS;
+use cyc_basics::limits::MOST_DISJUNCTS;
 use heap_formula::{Heap, Pure, RuleFault, Spatial, Subst, apply_to_pure, apply_to_spatial};
 use rule_table::{equated, has_pure as has_atom};
 

@@ -3,12 +3,13 @@ ghost use Rattle.std.specs.Prelude.{◌≡◌, ◌≤◌, [], ◌∷◌, List, N
 ghost use Rattle.heap_formula.specs.Definitions.{Definition};
 ghost use Rattle.heap_formula.specs.Judgements.{IsLocallySound};
 ghost use Rattle.heap_formula.specs.declared.commands.Command.{Command};
-ghost use Rattle.rule_table.specs.LinkTable.{keeps_below as bindings_keep, parts_fault as first_parts_fault, link_fault as first_link_fault, link_premise};
+ghost use Rattle.rule_table.specs.LinkTable.{keeps_below as bindings_keep, parts_fault as first_parts_fault};
+ghost use Rattle.rule_table.specs.LinkTable.{link_fault as first_link_fault, link_premise};
 ghost use Rattle.rule_table.specs.Soundness.{AreUniversal, HasVariables};
 
 use crate::covering::disjunct_fault;
 use crate::matching::{pure_fault, spatial_fault};
-use cyc_limits::MOST_DISJUNCTS;
+use cyc_basics::limits::MOST_DISJUNCTS;
 use heap_formula::{Heap, Judgement, Link, RuleFault, Subst, Term, apply_to_term};
 use rule_table::same_term;
 

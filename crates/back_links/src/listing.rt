@@ -6,7 +6,8 @@ ghost use Rattle.heap_formula.specs.Words.{OneOf};
 ghost use Rattle.heap_formula.specs.declared.judgements.Judgement.{Judgement as JudgementParts};
 ghost use Rattle.heap_formula.specs.declared.proof_rules.Link.{Link as LinkParts};
 ghost use Rattle.rule_table.specs.LinkTable.{link_fault as fault_of};
-ghost use Rattle.back_links.specs.Searching.{MayStart, may_place, may_send, with_choice, found_with, link_if_right, links_by_entries, links_by_pairs, links_by_places};
+ghost use Rattle.back_links.specs.Searching.{MayStart, may_place, may_send, with_choice, found_with, link_if_right};
+ghost use Rattle.back_links.specs.Searching.{links_by_entries, links_by_pairs, links_by_places};
 
 use crate::covering::covers_at;
 use crate::faults::link_fault;
@@ -14,7 +15,7 @@ use crate::prospects::{
     Search, Start, are_alike, could_send, could_take, have_covers, have_values, start_of,
 };
 use crate::variables::{universals, values};
-use cyc_limits::MOST_DISJUNCTS;
+use cyc_basics::limits::MOST_DISJUNCTS;
 use heap_formula::{Heap, Judgement, Link, OutOfMemory, Positions, Spatial, Subst, Term};
 use rule_table::antecedent;
 use std::alloc::Global;
@@ -272,8 +273,8 @@ fn first_links(
 
 /// The first `most` links from the bud to the companion, which is node `target`, that have no fault and whose
 /// substitution sends each universal variable of the companion, in ascending order, to `nil` or a universal variable of
-/// the bud; `p` is the number of program variables for `from` judgements and 0 for entailments. The order is by map, then
-/// by the substitution's values (`nil` first, then by number), then by disjuncts, each as lists.
+/// the bud; `p` is the number of program variables for `from` judgements and 0 for entailments. The order is by map,
+/// then by the substitution's values (`nil` first, then by number), then by disjuncts, each as lists.
 pub fn all_links(
     alloc: Global,
     bud: &Judgement,
@@ -288,7 +289,8 @@ pub fn all_links(
 }
 
 /// No link is left out of the list that `all_links` begins: each link without a fault, whose substitution sends the
-/// companion's universal variables in ascending order to `nil` or to those of the bud, is in it. The function does nothing.
+/// companion's universal variables in ascending order to `nil` or to those of the bud, is in it. The function does
+/// nothing.
 pub fn no_link_is_left_out()
     ensures { (bud companion : JudgementParts) (target p : ℕ) (link : LinkParts) → link.target ≡ target
         → IsMade (values_of bud) (universals_of companion) link.subst → fault_of bud companion link p ≡ None

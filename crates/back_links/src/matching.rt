@@ -1,7 +1,8 @@
 // Spatial atoms that match up to the equations of the bud.
 ghost use Rattle.std.specs.Prelude.{◌≡◌, ◌≤◌, ◌<◌, ◌&&◌, [], map, length, take, not, slice_get, slice_index};
 ghost use Rattle.heap_formula.specs.Substitution.{apply_pure, apply_spatial};
-ghost use Rattle.rule_table.specs.LinkTable.{all_equated as terms_equated, matches as atoms_match, matches_some, pure_fault as first_pure_fault, spatial_fault as first_spatial_fault};
+ghost use Rattle.rule_table.specs.LinkTable.{all_equated as terms_equated, matches as atoms_match, matches_some};
+ghost use Rattle.rule_table.specs.LinkTable.{pure_fault as first_pure_fault, spatial_fault as first_spatial_fault};
 ghost use Rattle.rule_table.specs.Tests.{has_number};
 
 use heap_formula::{Pure, RuleFault, Spatial, Subst, Term, apply_to_pure, apply_to_spatial};

@@ -1,13 +1,23 @@
 // Whether the choices that are made so far leave a link possible.
 ghost use Rattle.std.specs.Prelude.{◌≡◌, ◌≤◌, ◌<◌, ◌||◌, length, nat_le, slice_get};
 ghost use Rattle.std.specs.Option.{option_copied};
-ghost use Rattle.back_links.specs.Prospects.{lookup as looked_up, known as known_term, could_equal as terms_could, could_equal_all as all_could, could_match as atoms_could, could_match_some, could_match_those as those_could, known_pure as pure_known, could_follow as pure_could, could_follow_those as those_could_follow, could_keep as could_stay, kept_variables as variables_kept, could_stand as stand_could, could_take as take_could, are_alike as alike, opposite_in as opposite_term_in, opposite as opposite_term, is_ruled_out as value_is_ruled_out, has_cover as cover_left, have_covers as covers_left};
-ghost use Rattle.back_links.specs.Searching.{MayStart, MayStartAt, MustEqual, could_match_with as could_match_atom, may_send, value_is_left, values_are_left};
+ghost use Rattle.back_links.specs.Prospects.{lookup as looked_up, known as known_term, could_equal as terms_could};
+ghost use Rattle.back_links.specs.Prospects.{could_equal_all as all_could, could_match as atoms_could};
+ghost use Rattle.back_links.specs.Prospects.{could_match_some, could_match_those as those_could};
+ghost use Rattle.back_links.specs.Prospects.{known_pure as pure_known, could_follow as pure_could};
+ghost use Rattle.back_links.specs.Prospects.{could_follow_those as those_could_follow, could_keep as could_stay};
+ghost use Rattle.back_links.specs.Prospects.{kept_variables as variables_kept, could_stand as stand_could};
+ghost use Rattle.back_links.specs.Prospects.{could_take as take_could, are_alike as alike};
+ghost use Rattle.back_links.specs.Prospects.{opposite_in as opposite_term_in, opposite as opposite_term};
+ghost use Rattle.back_links.specs.Prospects.{is_ruled_out as value_is_ruled_out, has_cover as cover_left};
+ghost use Rattle.back_links.specs.Prospects.{have_covers as covers_left};
+ghost use Rattle.back_links.specs.Searching.{MayStart, MayStartAt, MustEqual, could_match_with as could_match_atom};
+ghost use Rattle.back_links.specs.Searching.{may_send, value_is_left, values_are_left};
 
 use crate::covering::covers_at;
 use crate::shapes::{all_have_shapes, has_shapes, same_shapes};
 use crate::variables::{stands_in_pure, stands_in_spatial};
-use cyc_limits::MOST_DISJUNCTS;
+use cyc_basics::limits::MOST_DISJUNCTS;
 use heap_formula::{Heap, Judgement, Pure, Spatial, Subst, Term};
 use rule_table::{antecedent, equated, follows, is_among, same_term};
 
@@ -251,8 +261,8 @@ fn term_at(search: &Search<'_>, places: &[u32], n: u16, first: usize) -> Option<
     opposite(n, &xs[first], &atoms[m])
 }
 
-/// Where the test of a variable starts: how many of the first placed atoms of the companion have not the variable, and the
-/// term that its value has to equal, if an atom says so.
+/// Where the test of a variable starts: how many of the first placed atoms of the companion have not the variable, and
+/// the term that its value has to equal, if an atom says so.
 #[derive(Clone, Copy)]
 pub struct Start {
     pub first: usize,
@@ -349,8 +359,9 @@ pub fn could_take(search: &Search<'_>, places: &[u32], m: u32) -> bool
         && could_stand(a.pure(), a.spatial(), m, b.spatial().get(places.len()))
 }
 
-/// Whether the two are of one kind and the bud's spatial atoms have the shapes that a link needs: of an entailment's antecedent
-/// just the companion's, and in some disjunct those of each of the companion's; at one line the companion's and perhaps more.
+/// Whether the two are of one kind and the bud's spatial atoms have the shapes that a link needs: of an entailment's
+/// antecedent just the companion's, and in some disjunct those of each of the companion's; at one line the companion's
+/// and perhaps more.
 pub fn are_alike(bud: &Judgement, companion: &Judgement) -> bool
     ensures { result ≡ alike bud.now companion.now }
 {

@@ -1,7 +1,9 @@
 // The shapes of spatial atoms, which no substitution changes.
 ghost use Rattle.std.specs.Prelude.{◌≡◌, count_by};
 ghost use Rattle.std.specs.List.{list_all};
-ghost use Rattle.back_links.specs.Shapes.{same_shape as of_one_shape, has_as_many as of_one_has_as_many, has_shapes as list_has_shapes, same_shapes as of_same_shapes, some_has_shapes as some_list_has};
+ghost use Rattle.back_links.specs.Shapes.{same_shape as of_one_shape, has_as_many as of_one_has_as_many};
+ghost use Rattle.back_links.specs.Shapes.{has_shapes as list_has_shapes, same_shapes as of_same_shapes};
+ghost use Rattle.back_links.specs.Shapes.{some_has_shapes as some_list_has};
 
 use heap_formula::{Heap, Spatial};
 

@@ -2,7 +2,9 @@
 ghost use Rattle.std.specs.Prelude.{◌≡◌, IfOk};
 ghost use Rattle.std.specs.List.{list_any};
 ghost use Rattle.heap_formula.specs.declared.terms.Term.TheVariants.{Univ};
-ghost use Rattle.back_links.specs.Listing.{is_one_of as term_stands, stands_in_pure as pure_has, stands_in_spatial as spatial_has, stands_in_heap as heap_has, stands_in as judgement_has, universals as universals_of, values_of};
+ghost use Rattle.back_links.specs.Listing.{is_one_of as term_stands, stands_in_pure as pure_has};
+ghost use Rattle.back_links.specs.Listing.{stands_in_spatial as spatial_has, stands_in_heap as heap_has};
+ghost use Rattle.back_links.specs.Listing.{stands_in as judgement_has, universals as universals_of, values_of};
 
 use heap_formula::{Heap, Judgement, OutOfMemory, Pure, Spatial, Term, bound_of_judgement};
 use rule_table::same_term;

@@ -1,17 +1,21 @@
 -- Masks as sets of positions: what they have, and which list they stand for.
-use Rattle.std.proofs.Common.{◌≡◌, ℕ, zero, suc, ◌+◌, ◌-◌, ◌*◌, ◌%◌, ◌^◌, ◌<◌, ◌≤◌, ◌⊎◌, inl, inr, List, [], ◌∷◌, Bool, true, false, not, ◌&&◌, ◌||◌, cond, filter, length, drop, get_or, nat_eq, bit_or, arith, sym, refl, ap, ◌∙◌, subst, eqb-true}
+use Rattle.std.proofs.Common.{◌≡◌, ℕ, zero, suc, ◌+◌, ◌-◌, ◌*◌, ◌%◌, ◌^◌, ◌<◌, ◌≤◌, ◌⊎◌, inl, inr, List, [], ◌∷◌, Bool}
+use Rattle.std.proofs.Common.{true, false, not, ◌&&◌, ◌||◌, cond, filter, length, drop, get_or, nat_eq, bit_or, arith}
+use Rattle.std.proofs.Common.{sym, refl, ap, ◌∙◌, subst, eqb-true}
 use Rattle.std.specs.Prelude.{slice_index}
 use Rattle.std.specs.Int.{bit_at}
 use Rattle.std.specs.List.Sorted.{IsStrictlyIncreasing}
-use Rattle.std.proofs.lemmas.Bool.{cases_Bool, cases_eq, cases_lt, both_ways, or_left, or_right, eq-eqb, ne_eqb, false_from_ne_true}
+use Rattle.std.proofs.lemmas.Bool.{cases_Bool, cases_eq, cases_lt, both_ways, or_left, or_right, eq-eqb, ne_eqb}
+use Rattle.std.proofs.lemmas.Bool.{false_from_ne_true}
 use Rattle.std.proofs.lemmas.List.{drop_all, drop_more}
 use Rattle.std.proofs.lemmas.Nat.{one_shl}
-use Rattle.std.proofs.lemmas.Nat.Bits.{bit_at-lt, bit_at_not, bit_at_ones, bit_at-pow_same, bit_at-pow_other, same_from_bits_below}
+use Rattle.std.proofs.lemmas.Nat.Bits.{bit_at-lt, bit_at_not, bit_at_ones, bit_at-pow_same, bit_at-pow_other}
+use Rattle.std.proofs.lemmas.Nat.Bits.{same_from_bits_below}
 use Rattle.std.specs.Int.{w32}
 use Rattle.buchi_core.specs.Forest.{IsPositionSet, has, places, is_filled}
 use Rattle.buchi_core.specs.View.{members}
-use Rattle.list_facts.specs.Bits.{is_one}
-use Rattle.list_facts.proofs.Bits.{one_or, one_zero}
+use Rattle.cyc_basics.specs.Bits.{is_one}
+use Rattle.cyc_basics.proofs.Bits.{one_or, one_zero}
 use Rattle.std.proofs.Math.Bool.{or-false}
 
 -- ---- places
@@ -19,7 +23,8 @@ places_agree : (f g : ℕ → Bool) (i n : ℕ) → ((q : ℕ) → i ≤ q → q
 places_agree f g i zero h = refl
 places_agree f g i (suc n) h =
     let e : f i ≡ g i = h i (omega arith) (omega arith) in
-    let r : places f (suc i) n ≡ places g (suc i) n = places_agree f g (suc i) n (λ q a b. h q (omega (arith, a)) (omega (arith, b))) in
+    let r : places f (suc i) n ≡ places g (suc i) n = places_agree f g (suc i) n
+    (λ q a b. h q (omega (arith, a)) (omega (arith, b))) in
     ap (λ b. cond b (i ∷ places f (suc i) n) (places f (suc i) n)) e ∙ ap (λ (z : List ℕ). cond (g i) (i ∷ z) z) r
 
 places_filter : (f g : ℕ → Bool) (i n : ℕ) → filter f (places g i n) ≡ places (λ q. g q && f q) i n
@@ -51,11 +56,13 @@ has_inside f i (suc n) q a b =
     elim (cases_eq i q) [
       | inl e ↦
           elim (cases_Bool (f i)) [
-            | inl y ↦ rw y (or_left (nat_eq i q) (has (places f (suc i) n) q) (eq-eqb i q e) ∙ sym (subst (λ x. f x ≡ true) e y))
+            | inl y ↦ rw y (or_left (nat_eq i q) (has (places f (suc i) n) q) (eq-eqb i q e)
+                ∙ sym (subst (λ x. f x ≡ true) e y))
             | inr y ↦ rw y (has_below f (suc i) n q (omega arith) ∙ sym (subst (λ x. f x ≡ false) e y))
           ]
       | inr d ↦
-          (let l : suc i ≤ q = (elim (cases_Bool (nat_eq i q)) [ inl s ↦ absurd (d (eqb-true i q s)) | inr s ↦ omega (arith, d) ]) in
+          (let l : suc i ≤ q = (elim (cases_Bool (nat_eq i q))
+          [ inl s ↦ absurd (d (eqb-true i q s)) | inr s ↦ omega (arith, d) ]) in
           let r = has_inside f (suc i) n q l (omega arith) in
           let ne : nat_eq i q ≡ false = ne_eqb i q d in
           elim (cases_Bool (f i)) [ inl y ↦ rw (y, ne) r | inr y ↦ rw y r ])
@@ -78,9 +85,11 @@ member_is m q h =
     ]
 
 -- a mask whose ones are those of another that pass a test
-pub members_filter : (m n : ℕ) (f : ℕ → Bool) → ((q : ℕ) → q < 32 → is_one m q ≡ (is_one n q && f q)) → members m ≡ filter f (members n)
+pub members_filter : (m n : ℕ) (f : ℕ → Bool) → ((q : ℕ) → q < 32 → is_one m q ≡ (is_one n q && f q))
+    → members m ≡ filter f (members n)
 unfolding members
-members_filter m n f h = places_agree (is_one m) (λ q. is_one n q && f q) 0 32 (λ q a b. h q b) ∙ sym (places_filter f (is_one n) 0 32)
+members_filter m n f h = places_agree (is_one m) (λ q. is_one n q && f q) 0 32 (λ q a b. h q b)
+    ∙ sym (places_filter f (is_one n) 0 32)
 
 -- ---- lists that rise
 abbrev Rising : ℕ → List ℕ → Type 0
@@ -111,7 +120,8 @@ places_empty : (i n : ℕ) → places (has []) i n ≡ []
 places_empty i zero = refl
 places_empty i (suc n) = places_empty (suc i) n
 
-places_rising : (xs : List ℕ) (i n : ℕ) → Rising i xs → ((q : ℕ) → has xs q ≡ true → q < i + n) → places (has xs) i n ≡ xs
+places_rising : (xs : List ℕ) (i n : ℕ) → Rising i xs → ((q : ℕ) → has xs q ≡ true → q < i + n)
+    → places (has xs) i n ≡ xs
 places_rising [] i n r b = places_empty i n
 places_rising (x ∷ xs) i zero r b = absurd (omega (arith, r.0, b x (or_left (nat_eq x x) (has xs x) (eq-eqb x x refl))))
 places_rising (x ∷ xs) i (suc n) r b =
@@ -123,21 +133,24 @@ places_rising (x ∷ xs) i (suc n) r b =
           let ne : nat_eq x q ≡ false = ne_eqb x q (λ d. omega (arith, d, e, a)) in
           ap (λ z. z || has xs q) ne)) in
           let rest : places (has xs) (suc i) n ≡ xs =
-          places_rising xs (suc i) n (subst (λ z. Rising (suc z) xs) (sym e) r.1) (λ q m. omega (arith, b q (or_right (nat_eq x q) (has xs q) m))) in
+          places_rising xs (suc i) n (subst (λ z. Rising (suc z) xs) (sym e) r.1)
+          (λ q m. omega (arith, b q (or_right (nat_eq x q) (has xs q) m))) in
           let both : places (has (x ∷ xs)) (suc i) n ≡ xs = agree ∙ rest in
           rw here (λ j. e j ∷ both j))
       | inr d ↦
           (let ne : nat_eq x i ≡ false = ne_eqb x i (λ e. d (sym e)) in
           let l : i < x = (elim (cases_eq i x) [ inl s ↦ absurd (d s) | inr s ↦ omega (arith, d, r.0) ]) in
           let away : has (x ∷ xs) i ≡ false = rw ne (rising_not (suc x) xs i r.1 (omega (arith, l))) in
-          let rest : places (has (x ∷ xs)) (suc i) n ≡ (x ∷ xs) = places_rising (x ∷ xs) (suc i) n (omega (arith, l), r.1) (λ q m. omega (arith, b q m)) in
+          let rest : places (has (x ∷ xs)) (suc i) n
+          ≡ (x ∷ xs) = places_rising (x ∷ xs) (suc i) n (omega (arith, l), r.1) (λ q m. omega (arith, b q m)) in
           rw away rest)
     ]
 
 -- a mask that has what a set of positions has stands for it
 pub members_set : (m : ℕ) (xs : List ℕ) → IsPositionSet xs → ((q : ℕ) → q < 32 → is_one m q ≡ has xs q) → members m ≡ xs
 unfolding members
-members_set m xs s h = places_agree (is_one m) (has xs) 0 32 (λ q a b. h q b) ∙ places_rising xs 0 32 (rising_start xs s.0) (λ q m. s.1 q m)
+members_set m xs s h = places_agree (is_one m) (has xs) 0 32 (λ q a b. h q b)
+    ∙ places_rising xs 0 32 (rising_start xs s.0) (λ q m. s.1 q m)
 
 -- ---- bits
 bit_cases : (x : ℕ) → x < 2 → (x ≡ 0) ⊎ (x ≡ 1)
@@ -184,7 +197,8 @@ pub same_mask : (a b : ℕ) → a < 2 ^ 32 → b < 2 ^ 32 → ((q : ℕ) → q <
 same_mask a b la lb h = same_from_bits_below 32 a b la lb (λ q l. bit_is a b q (h q l))
 
 pub same_members : (a b : ℕ) → a < 2 ^ 32 → b < 2 ^ 32 → members a ≡ members b → a ≡ b
-same_members a b la lb e = same_mask a b la lb (λ q l. sym (has_members a q l) ∙ (ap (λ (z : List ℕ). has z q) e ∙ has_members b q l))
+same_members a b la lb e = same_mask a b la lb (λ q l. sym (has_members a q l)
+    ∙ (ap (λ (z : List ℕ). has z q) e ∙ has_members b q l))
 
 pub no_ones : (m : ℕ) → m < 2 ^ 32 → ((q : ℕ) → q < 32 → is_one m q ≡ false) → m ≡ 0
 no_ones m l h = same_mask m 0 l (omega arith) (λ q k. h q k ∙ sym (one_zero q))
@@ -204,10 +218,12 @@ filled_mask m l =
       | inl y ↦
           (let x = filled_has (members m) y in
           let o = member_is m x.0 x.1 in
-          let ne : nat_eq m 0 ≡ false = ne_eqb m 0 (λ e. both_ways (is_one m x.0) (ap (λ z. is_one z x.0) e ∙ one_zero x.0) o.1) in
+          let ne : nat_eq m 0 ≡ false = ne_eqb m 0 (λ e. both_ways (is_one m x.0)
+          (ap (λ z. is_one z x.0) e ∙ one_zero x.0) o.1) in
           y ∙ sym (ap not ne))
       | inr n ↦
-          (let z : m ≡ 0 = no_ones m l (λ q k. false_from_ne_true (is_one m q) (λ t. both_ways (is_filled (members m)) n (has_filled (members m) q (has_members m q k ∙ t)))) in
+          (let z : m ≡ 0 = no_ones m l (λ q k. false_from_ne_true (is_one m q)
+          (λ t. both_ways (is_filled (members m)) n (has_filled (members m) q (has_members m q k ∙ t)))) in
           n ∙ sym (ap not (eq-eqb m 0 z)))
     ]
 
@@ -216,12 +232,15 @@ pub or_more : (a b x z w : Bool) → x ≡ (a || b) → (a || (b || z)) ≡ w �
 or_more true b x z w e h = ap (λ y. y || z) e ∙ h
 or_more false b x z w e h = ap (λ y. y || z) e ∙ h
 
-pub position_more : (ps : List ℕ) (mask bit i q d : ℕ) → i < length ps → is_one bit q ≡ nat_eq (get_or ps i d) q → (is_one mask q || has (drop i ps) q) ≡ has ps q → (is_one (bit_or mask bit) q || has (drop (i + 1) ps) q) ≡ has ps q
+pub position_more : (ps : List ℕ) (mask bit i q d : ℕ) → i < length ps → is_one bit q ≡ nat_eq (get_or ps i d) q
+    → (is_one mask q || has (drop i ps) q) ≡ has ps q → (is_one (bit_or mask bit) q || has (drop (i + 1) ps) q)
+    ≡ has ps q
 position_more ps mask bit i q d l b h =
     or_more (is_one mask q) (nat_eq (get_or ps i d) q) (is_one (bit_or mask bit) q) (has (drop (i + 1) ps) q) (has ps q)
     (one_or mask bit q ∙ ap (λ z. is_one mask q || z) b)
     (subst (λ (z : List ℕ). (is_one mask q || has z q) ≡ has ps q) (drop_more ps i d l) h)
 
-pub position_end : (ps : List ℕ) (mask i q : ℕ) → length ps ≤ i → (is_one mask q || has (drop i ps) q) ≡ has ps q → is_one mask q ≡ has ps q
+pub position_end : (ps : List ℕ) (mask i q : ℕ) → length ps ≤ i → (is_one mask q || has (drop i ps) q) ≡ has ps q
+    → is_one mask q ≡ has ps q
 position_end ps mask i q l h =
     sym (or-false (is_one mask q)) ∙ subst (λ (z : List ℕ). (is_one mask q || has z q) ≡ has ps q) (drop_all i ps l) h

@@ -1,27 +1,32 @@
 -- An entry is full where it has positions and leaves none to a further child.
-use Rattle.std.proofs.Common.{◌≡◌, ℕ, ◌<◌, ◌^◌, List, [], ◌∷◌, Bool, true, false, not, ltb, ◌&&◌, Some, slice_get, get_or, nat_eq, option_map, inl, inr, length, sym, refl, ap, ◌∙◌}
-use Rattle.std.proofs.lemmas.Bool.{cases_Bool, and_from, and_left, both_ways, eq-eqb, eqb-true, ltb-true, or_left, or_right}
+use Rattle.std.proofs.Common.{◌≡◌, ℕ, ◌<◌, ◌^◌, List, [], ◌∷◌, Bool, true, false, not, ltb, ◌&&◌, Some, slice_get}
+use Rattle.std.proofs.Common.{get_or, nat_eq, option_map, inl, inr, length, sym, refl, ap, ◌∙◌}
+use Rattle.std.proofs.lemmas.Bool.{cases_Bool, and_from, and_left, both_ways, eq-eqb, eqb-true, ltb-true, or_left}
+use Rattle.std.proofs.lemmas.Bool.{or_right}
 use Rattle.std.proofs.lemmas.Option.{slice_get-map, slice_get_read}
 use Rattle.std.specs.List.{list_all}
 use Rattle.buchi_core.specs.Forest.{has, entry_has, child_has, set_of, is_set, is_filled, is_full, is_kept, losses}
 use Rattle.buchi_core.specs.declared.entry.Entry.{Entry}
 use Rattle.buchi_core.specs.declared.young.Young.{Young}
 use Rattle.buchi_core.specs.View.{members, entry_of, entries_of}
-use Rattle.list_facts.specs.Bits.{is_one}
+use Rattle.cyc_basics.specs.Bits.{is_one}
 use Rattle.buchi_core.specs.Young.{AreLeft, made}
 use Rattle.buchi_core.proofs.Lists.{every_has}
 use Rattle.buchi_core.proofs.Bits.{member_is, filled_mask, no_ones}
-use Rattle.list_facts.proofs.Bits.{one_zero}
+use Rattle.cyc_basics.proofs.Bits.{one_zero}
 
 every_from : (t : ℕ → Bool) (xs : List ℕ) → ((q : ℕ) → has xs q ≡ true → t q ≡ true) → list_all t xs ≡ true
 every_from t [] h = refl
 every_from t (x ∷ xs) h =
-    and_from (t x) (list_all t xs) (h x (or_left (nat_eq x x) (has xs x) (eq-eqb x x refl))) (every_from t xs (λ q m. h q (or_right (nat_eq x q) (has xs q) m)))
+    and_from (t x) (list_all t xs) (h x (or_left (nat_eq x x) (has xs x) (eq-eqb x x refl)))
+    (every_from t xs (λ q m. h q (or_right (nat_eq x q) (has xs q) m)))
 
-entry_at : (entries : List Entry) (i : ℕ) (e : Entry) → slice_get entries i ≡ Some e → slice_get (entries_of entries) i ≡ Some (entry_of e)
+entry_at : (entries : List Entry) (i : ℕ) (e : Entry) → slice_get entries i ≡ Some e
+    → slice_get (entries_of entries) i ≡ Some (entry_of e)
 entry_at entries i e h = slice_get-map entry_of entries i ∙ ap (option_map entry_of) h
 
-pub get_is : (entries : List Entry) (i : ℕ) (e : Entry) → true ≡ ltb i (length entries) → e ≡ get_or entries i e → slice_get entries i ≡ Some e
+pub get_is : (entries : List Entry) (i : ℕ) (e : Entry) → true ≡ ltb i (length entries) → e ≡ get_or entries i e
+    → slice_get entries i ≡ Some e
 get_is entries i e l at = slice_get_read entries (length entries) i e refl (ltb-true i (length entries) (sym l)) at
 
 pub full_parts : (y : Young) (i : ℕ) (e : Entry) → slice_get y.entries.items i ≡ Some e →
@@ -36,7 +41,8 @@ left_none a true x e f h = refl
 left_none true false x e f h = absurd (both_ways x f e)
 left_none false false x e f h = absurd (both_ways false refl h)
 
-module _ (y : Young) (left : AreLeft y) (i : ℕ) (e : Entry) (at : slice_get y.entries.items i ≡ Some e) (fits : get_or y.left i 0 < 2 ^ 32) where
+module _ (y : Young) (left : AreLeft y) (i : ℕ) (e : Entry) (at : slice_get y.entries.items i ≡ Some e)
+    (fits : get_or y.left i 0 < 2 ^ 32) where
   left_is : (q : ℕ) → q < 32 → is_one (get_or y.left i 0) q ≡ (has (members e.set) q && not (child_has (made y) i q))
   left_is q l =
       left.right (Some i) q l ∙
@@ -53,25 +59,31 @@ module _ (y : Young) (left : AreLeft y) (i : ℕ) (e : Entry) (at : slice_get y.
         | inr n ↦
             elim (cases_Bool (list_all (child_has (made y) i) (members e.set))) [
               | inl all ↦
-                  absurd (both_ways (nat_eq (get_or y.left i 0) 0) n (eq-eqb (get_or y.left i 0) 0 (no_ones (get_or y.left i 0) fits (λ q l. left_is q l ∙ none q all))))
+                  absurd (both_ways (nat_eq (get_or y.left i 0) 0) n
+                  (eq-eqb (get_or y.left i 0) 0 (no_ones (get_or y.left i 0) fits
+                  (λ q l. left_is q l ∙ none q all))))
               | inr some' ↦ some' ∙ sym n
             ]
       ]
     where
-      none : (q : ℕ) → list_all (child_has (made y) i) (members e.set) ≡ true → (has (members e.set) q && not (child_has (made y) i q)) ≡ false
+      none : (q : ℕ) → list_all (child_has (made y) i) (members e.set) ≡ true
+          → (has (members e.set) q && not (child_has (made y) i q)) ≡ false
       none q all =
           elim (cases_Bool (has (members e.set) q)) [
-            | inl m ↦ ap (λ b. has (members e.set) q && not b) (every_has (child_has (made y) i) (members e.set) q all m) ∙ ap (λ b. b && false) m
+            | inl m ↦ ap (λ b. has (members e.set) q && not b)
+                (every_has (child_has (made y) i) (members e.set) q all m) ∙ ap (λ b. b && false) m
             | inr n ↦ and_left (has (members e.set) q) (not (child_has (made y) i q)) n
           ]
 
   pub full_is : is_full (made y) i ≡ (not (nat_eq e.set 0) && nat_eq (get_or y.left i 0) 0)
   full_is = full_parts y i e at ∙ ap (λ b. not (nat_eq e.set 0) && b) covered
 
-pub kept_is : (entries : List Entry) (lost : List Bool) (i : ℕ) (e : Entry) → lost ≡ losses (entries_of entries) → slice_get entries i ≡ Some e →
+pub kept_is : (entries : List Entry) (lost : List Bool) (i : ℕ) (e : Entry) → lost ≡ losses (entries_of entries)
+    → slice_get entries i ≡ Some e →
     is_kept (entries_of entries) i ≡ (not (nat_eq e.set 0) && not (is_set (slice_get lost i)))
 kept_is entries lost i e same at =
-    ap (λ o. is_filled (set_of o) && not (is_set (slice_get (losses (entries_of entries)) i))) (entry_at entries i e at) ∙
+    ap (λ o. is_filled (set_of o) && not (is_set (slice_get (losses (entries_of entries)) i))) (entry_at entries i e at)
+    ∙
     (ap (λ b. b && not (is_set (slice_get (losses (entries_of entries)) i))) (filled_mask e.set e.fits) ∙
     ap (λ (z : List Bool). not (nat_eq e.set 0) && not (is_set (slice_get z i))) (sym same))
 

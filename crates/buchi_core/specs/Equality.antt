@@ -1,4 +1,5 @@
--- When entries and forests are equal, and what is hashed of an entry: what a forest holds counts, and not the rest of its array.
+-- When entries and forests are equal, and what is hashed of an entry: what a forest holds counts, and not the rest of
+-- its array.
 use Rattle.std.specs.Prelude.{Bool, ◌&&◌, nat_eq}
 use Rattle.std.specs.Option.{option_eq}
 use Rattle.std.specs.Cmp.{IsEquivalence, nat_eq_equiv, on_equiv, and_equiv}
@@ -22,7 +23,8 @@ abbrev pub entry_writes : Entry → HashWrites
 entry_writes e = fed.u32 e.set
 
 entry_equiv : IsEquivalence entry_eq
-entry_equiv = and_equiv (on_equiv (λ (e : Entry). e.parent) (options_equiv nat_eq_equiv)) (on_equiv (λ (e : Entry). e.set) nat_eq_equiv)
+entry_equiv = and_equiv (on_equiv (λ (e : Entry). e.parent) (options_equiv nat_eq_equiv))
+    (on_equiv (λ (e : Entry). e.set) nat_eq_equiv)
 
 -- so it is with itself, both ways round and along a chain
 pub forest_equiv : IsEquivalence forest_eq

@@ -1,6 +1,7 @@
 -- Age forests: the start, the step and its event.
-pub use Rattle.position_sets.specs.Sets.{Pair, has, IsPositionSet}
-use Rattle.std.specs.Prelude.{ℕ, zero, suc, Bool, true, false, cond, not, ◌&&◌, ◌||◌, List, [], ◌∷◌, ◌++◌, map, Option, Some, None, slice_get, length, filter, nat_eq, ltb, leb}
+pub use Rattle.cyc_basics.specs.Sets.{Pair, has, IsPositionSet}
+use Rattle.std.specs.Prelude.{ℕ, zero, suc, Bool, true, false, cond, not, ◌&&◌, ◌||◌, List, [], ◌∷◌, ◌++◌, map, Option}
+use Rattle.std.specs.Prelude.{Some, None, slice_get, length, filter, nat_eq, ltb, leb}
 use Rattle.std.specs.List.{list_any, list_all}
 use Rattle.buchi_core.specs.declared.event.Event.{Event}
 use Rattle.buchi_core.specs.declared.event.Event.TheVariants.{Dies, Green, Nothing}
@@ -30,7 +31,8 @@ moved pairs positions e = record { parent = e.parent; set = successors pairs pos
 abbrev pub children : List Pair → List ℕ → ℕ → List Entry → List Entry
 children pairs positions i [] = []
 children pairs positions i (e ∷ es) =
-    record { parent = Some i; set = successors (progressing pairs) positions e.set } ∷ children pairs positions (suc i) es
+    record { parent = Some i; set = successors (progressing pairs) positions e.set }
+    ∷ children pairs positions (suc i) es
 
 -- the top entry with all positions
 abbrev pub top : List ℕ → Entry

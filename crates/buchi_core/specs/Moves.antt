@@ -1,7 +1,7 @@
 -- Where pairs lead from each position, as masks.
 use Rattle.std.specs.Prelude.{ℕ, ◌≡◌, ◌<◌, List, [], ◌∷◌, length, get_or}
 use Rattle.buchi_core.specs.Forest.{Pair, leads}
-use Rattle.list_facts.specs.Bits.{is_one}
+use Rattle.cyc_basics.specs.Bits.{is_one}
 
 -- the mask at each position has those that the pairs lead to from it
 pub record AreMoves (pairs : List Pair) (masks : List ℕ) : Type 0 where

@@ -3,7 +3,7 @@ use Rattle.std.specs.Prelude.{ℕ, List, map, take}
 use Rattle.buchi_core.specs.Forest.{Entry as AgeEntry, places}
 use Rattle.buchi_core.specs.declared.entry.Entry.{Entry}
 use Rattle.buchi_core.specs.declared.age_forest.AgeForest.{AgeForest}
-use Rattle.list_facts.specs.Bits.{is_one}
+use Rattle.cyc_basics.specs.Bits.{is_one}
 
 -- the positions that a mask of 32 bits stands for: the places of its ones
 unfoldable pub members : ℕ → List ℕ

@@ -4,7 +4,7 @@ use Rattle.std.specs.List.{list_any}
 use Rattle.buchi_core.specs.declared.young.Young.{Young}
 use Rattle.buchi_core.specs.Forest.{Entry as AgeEntry, has, same_parent, stays}
 use Rattle.buchi_core.specs.View.{entries_of}
-use Rattle.list_facts.specs.Bits.{is_one}
+use Rattle.cyc_basics.specs.Bits.{is_one}
 
 -- the plain data of the entries that are made
 abbrev pub made : Young → List AgeEntry
@@ -20,4 +20,5 @@ left_of y (Some p) = get_or y.left p 0
 pub record AreLeft (y : Young) : Type 0 where
   pub long : length y.left ≡ 65
   pub right : (o : Option ℕ) (q : ℕ) → q < 32 → is_one (left_of y o) q ≡ stays (made y) o q
-  pub childless : (p q : ℕ) → length y.entries.items ≤ p → list_any (λ e. same_parent e.parent (Some p) && has e.set q) (made y) ≡ false
+  pub childless : (p q : ℕ) → length y.entries.items ≤ p
+      → list_any (λ e. same_parent e.parent (Some p) && has e.set q) (made y) ≡ false

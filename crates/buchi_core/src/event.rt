@@ -12,7 +12,8 @@ pub enum Event {
     Nothing,
 }
 
-/// Whether the first event is earlier than the second: the lower place first, at one place the death, and no event last.
+/// Whether the first event is earlier than the second: the lower place first, at one place the death, and no event
+/// last.
 pub fn earlier(a: Event, b: Event) -> bool
     ensures { result ≡ is_earlier a b }
 {

@@ -59,8 +59,8 @@ fn push_children(
     }
 }
 
-/// Makes the entries of a step before any is dropped or lost, in place of those that were there. The table says where the
-/// pairs lead.
+/// Makes the entries of a step before any is dropped or lost, in place of those that were there. The table says where
+/// the pairs lead.
 pub(crate) fn grow(
     young: &mut Young,
     _pairs: &[(u8, u8, bool)],

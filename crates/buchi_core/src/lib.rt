@@ -1,5 +1,5 @@
-//! Age forests: a deterministic automaton in the manner of Safra's trees, in order of age, that follows all traces along
-//! a path at once.
+//! Age forests: a deterministic automaton in the manner of Safra's trees, in order of age, that follows all traces
+//! along a path at once.
 #![tactic(auto)]
 
 mod age_forest;
@@ -14,8 +14,8 @@ mod stepping;
 mod young;
 
 pub use age_forest::AgeForest;
+pub use cyc_basics::positions::is_position_set;
 pub use entry::Entry;
 pub use event::{Event, earlier};
 pub use list::entries_in;
-pub use position_sets::is_position_set;
 pub use stepping::{Stepper, start, step};

@@ -4,7 +4,7 @@ ghost use Rattle.std.specs.Prelude.{ℕ, ◌≡◌, ◌<◌, ◌&&◌, ◌||◌,
 ghost use Rattle.buchi_core.specs.Forest.{IsPositionSet, Pair, leads, successors, progressing};
 ghost use Rattle.buchi_core.specs.Moves.{AreMoves};
 ghost use Rattle.buchi_core.specs.View.{members};
-ghost use Rattle.list_facts.specs.Bits.{is_one};
+ghost use Rattle.cyc_basics.specs.Bits.{is_one};
 
 /// The mask of one position, empty if it isn't below 32.
 fn bit_of(position: u8) -> u32

@@ -1,7 +1,8 @@
 //! The last part of a step: entries that turn green, entries that go, and the event.
 
 ghost use Rattle.std.specs.Prelude.{◌≡◌, ◌≤◌, length, slice_get};
-ghost use Rattle.buchi_core.specs.Forest.{is_set, is_full, lost_below, losses, is_kept, rank, renumbered, settle, event_from};
+ghost use Rattle.buchi_core.specs.Forest.{is_set, is_full, lost_below, losses, is_kept, rank, renumbered, settle};
+ghost use Rattle.buchi_core.specs.Forest.{event_from};
 ghost use Rattle.buchi_core.specs.View.{entries_of, forest_of};
 ghost use Rattle.buchi_core.specs.Young.{AreLeft, made};
 

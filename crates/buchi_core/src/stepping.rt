@@ -15,7 +15,8 @@ use crate::settle::{event_at, find_losses, settle_all};
 use crate::young::{Young, no_entries};
 use arrayvec::ArrayVec;
 
-/// The forest that a search begins with at a node of these positions: one entry with all of them, none if there are none.
+/// The forest that a search begins with at a node of these positions: one entry with all of them, none if there are
+/// none.
 pub fn start(positions: &[u8]) -> AgeForest
     requires { IsPositionSet positions.now }
     ensures { forest_of result ≡ first_forest positions.now }

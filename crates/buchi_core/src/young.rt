@@ -4,14 +4,14 @@ ghost use Rattle.std.specs.Prelude.{ℕ, ◌≡◌, ◌<◌, ◌+◌, [], ◌∷
 ghost use Rattle.arrayvec.specs.ArrayVec.{array_vec_len};
 ghost use Rattle.buchi_core.specs.Forest.{same_parent, trimmed};
 ghost use Rattle.buchi_core.specs.View.{members};
-ghost use Rattle.list_facts.specs.Bits.{is_one};
+ghost use Rattle.cyc_basics.specs.Bits.{is_one};
 ghost use Rattle.buchi_core.specs.Young.{AreLeft, left_of, made};
 
 use crate::entry::Entry;
 use arrayvec::ArrayVec;
 
-/// Entries, oldest first, and for each the mask of what it has and none of its children so far; `top` is the mask of what
-/// no entry without a parent has.
+/// Entries, oldest first, and for each the mask of what it has and none of its children so far; `top` is the mask of
+/// what no entry without a parent has.
 #[derive(Drop)]
 pub(crate) struct Young {
     pub(crate) entries: ArrayVec<Entry, 65>,

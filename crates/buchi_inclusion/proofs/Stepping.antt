@@ -2,15 +2,17 @@
 use Rattle.std.proofs.Common.{◌≡◌, ℕ, ◌≤◌, List, arith, Some, slice_get, length, refl, subst, ap, ◌∙◌}
 use Rattle.std.proofs.lemmas.Option.{slice_get_within}
 use Rattle.trace_pairs.specs.Graph.{Pair, Edge, Node, IsGraph}
-use Rattle.position_sets.proofs.Members.{set_short}
+use Rattle.cyc_basics.proofs.Members.{set_short}
 use Rattle.buchi_core.specs.declared.event.Event.{Event}
 use Rattle.buchi_core.specs.Forest.{Entry, next_forest, event_of}
 use Rattle.buchi_inclusion.specs.Product.{State, Moves}
 use Rattle.buchi_inclusion.specs.Table.{IsStep, IsState}
 use Rattle.buchi_inclusion.proofs.Descent.{reach_more}
 
-pub step_is : (g : List Node) (s : State) (node target : Node) (k : ℕ) (e : Edge) (to : ℕ) (pairs : List Pair) (positions : List ℕ) (f : List Entry) (event : Event) → IsGraph g → IsState g s →
-    slice_get g s.node ≡ Some node → slice_get node.edges k ≡ Some e → to ≡ e.target → slice_get g to ≡ Some target → pairs ≡ e.pairs → positions ≡ target.positions →
+pub step_is : (g : List Node) (s : State) (node target : Node) (k : ℕ) (e : Edge) (to : ℕ) (pairs : List Pair)
+    (positions : List ℕ) (f : List Entry) (event : Event) → IsGraph g → IsState g s →
+    slice_get g s.node ≡ Some node → slice_get node.edges k ≡ Some e → to ≡ e.target → slice_get g to ≡ Some target
+    → pairs ≡ e.pairs → positions ≡ target.positions →
     f ≡ next_forest pairs positions s.forest → event ≡ event_of pairs positions s.forest → length f ≤ length positions →
     IsStep g s k (record { node = to; forest = f }) event × IsState g (record { node = to; forest = f })
 step_is g s node target k e to pairs positions f event graph state is_node is_edge leads is_to p q fe ee few =

@@ -1,9 +1,10 @@
--- What the contracts of the inclusion say: graphs that are in order, the number of product states, and the least event of a cycle.
+-- What the contracts of the inclusion say: graphs that are in order, the number of product states, and the least event
+-- of a cycle.
 use Rattle.std.specs.Prelude.{ℕ, ◌≡◌, ◌<◌, ◌≤◌, ◌⊎◌, List, Some, slice_get, length}
 use Rattle.trace_pairs.specs.Graph.{Node}
 use Rattle.buchi_core.specs.declared.event.Event.{Event}
 use Rattle.buchi_core.specs.declared.event.Event.TheVariants.{Dies, Nothing}
-use Rattle.buchi_inclusion.specs.declared.TheConstants.{MOST_STATES}
+use Rattle.buchi_inclusion.specs.declared.TheConstants.{MOST_PRODUCT_STATES}
 use Rattle.buchi_inclusion.specs.Product.{State, Moves, Run, Each, IsFrom, IsNothing, Reachable}
 
 -- reachable product states, each once
@@ -18,7 +19,7 @@ pub record AreAllReached (g : List Node) (states : List State) : Type 0 where
 
 -- the greatest number of product states that a check or a search explores
 abbrev pub state_limit : ℕ
-state_limit = MOST_STATES
+state_limit = MOST_PRODUCT_STATES
 
 -- the number of reachable product states is at most n
 abbrev pub HasAtMost : List Node → ℕ → Type 0

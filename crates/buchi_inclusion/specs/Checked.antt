@@ -13,7 +13,9 @@ FindsFaulty g faulty found = MatchOption found (NoneFaulty g faulty) (λ n. IsLe
 
 -- what an answer says. The four exclude one another, so each comes exactly where what it says is true
 abbrev pub IsChecked : List Node → (ℕ → Bool) → (ℕ → (ℕ → ℕ) → Type 0) → ℕ → Checked → Type 0
-IsChecked g faulty Holds limit Accepted = NoneFaulty g faulty × AllProgress g × HasAtMost g limit × ((stages : ℕ → ℕ) → Holds 0 stages)
+IsChecked g faulty Holds limit Accepted = NoneFaulty g faulty × AllProgress g × HasAtMost g limit
+    × ((stages : ℕ → ℕ) → Holds 0 stages)
 IsChecked g faulty Holds limit (Faulty n) = IsLeastFaulty g faulty n
-IsChecked g faulty Holds limit (PathRefused l) = NoneFaulty g faulty × IsLasso g l × (Progresses g l → ⊥) × HasAtMost g limit
+IsChecked g faulty Holds limit (PathRefused l) = NoneFaulty g faulty × IsLasso g l × (Progresses g l → ⊥)
+    × HasAtMost g limit
 IsChecked g faulty Holds limit TooManyStates = NoneFaulty g faulty × HasMoreThan g limit

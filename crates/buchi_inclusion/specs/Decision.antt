@@ -51,7 +51,8 @@ pub record IsWalk (g : List Node) (states : List State) (least : Event) (from to
 -- there is no way from the state at a place to that at another over events that are allowed
 abbrev pub IsNoWay : List Node → List State → Event → ℕ → ℕ → Type 0
 IsNoWay g states least from to =
-    (s t : State) (events : List Event) → slice_get states from ≡ Some s → slice_get states to ≡ Some t → Run g s t events → Each (IsAtLeast least) events → ⊥
+    (s t : State) (events : List Event) → slice_get states from ≡ Some s → slice_get states to ≡ Some t
+    → Run g s t events → Each (IsAtLeast least) events → ⊥
 
 -- a run over events that are allowed leads from the state at a place to that at another
 pub record HasWay (g : List Node) (states : List State) (least : Event) (from to : ℕ) : Type 0 where
@@ -68,7 +69,8 @@ abbrev pub AreLed : List Node → List State → Event → ℕ → List ℕ → 
 AreLed g states least start places = (i place : ℕ) → slice_get places i ≡ Some place → HasWay g states least start place
 
 -- the visit at a place was made from an earlier one, over an allowed step
-pub record IsWay (g : List Node) (states : List State) (least : Event) (visits : List Visit) (q : ℕ) (visit : Visit) : Type 0 where
+pub record IsWay (g : List Node) (states : List State) (least : Event) (visits : List Visit) (q : ℕ) (visit : Visit)
+    : Type 0 where
   pub earlier : visit.from < q
   pub from : Visit
   pub is_from : slice_get visits visit.from ≡ Some from
@@ -82,15 +84,18 @@ pub record IsWay (g : List Node) (states : List State) (least : Event) (visits :
   pub ok : IsAtLeast least event
 
 -- the first visit is the start, and each later one was made from an earlier one over an allowed step
-pub record AreWays (g : List Node) (states : List State) (least : Event) (start : ℕ) (visits : List Visit) : Type 0 where
+pub record AreWays (g : List Node) (states : List State) (least : Event) (start : ℕ) (visits : List Visit)
+    : Type 0 where
   pub first : Visit
   pub is_first : slice_get visits 0 ≡ Some first
   pub starts : first.state ≡ start
   pub led : (q : ℕ) (visit : Visit) → slice_get visits q ≡ Some visit → 0 < q → IsWay g states least visits q visit
-  pub listed : (q : ℕ) (visit : Visit) → slice_get visits q ≡ Some visit → (s : State) × (slice_get states visit.state ≡ Some s)
+  pub listed : (q : ℕ) (visit : Visit) → slice_get visits q ≡ Some visit
+      → (s : State) × (slice_get states visit.state ≡ Some s)
 
 -- a walk from the visit at one place to that at another
-pub record IsWayBetween (g : List Node) (states : List State) (least : Event) (visits : List Visit) (from to : ℕ) (steps : List Step) : Type 0 where
+pub record IsWayBetween (g : List Node) (states : List State) (least : Event) (visits : List Visit) (from to : ℕ)
+    (steps : List Step) : Type 0 where
   pub v : Visit
   pub w : Visit
   pub is_v : slice_get visits from ≡ Some v
@@ -104,11 +109,13 @@ pub record IsCounter (g : List Node) (l : Walk) : Type 0 where
 
 -- no move with the least event lies on a cycle of allowed ones
 abbrev pub AreNoWays : List Node → List State → Event → ℕ → List Transition → Type 0
-AreNoWays g states least q row = (k : ℕ) (m : Transition) → slice_get row k ≡ Some m → m.event ≡ least → IsNoWay g states least m.target q
+AreNoWays g states least q row = (k : ℕ) (m : Transition) → slice_get row k ≡ Some m → m.event ≡ least
+    → IsNoWay g states least m.target q
 
 -- no move with the least event lies on a cycle of allowed ones, in any row
 abbrev pub IsGoodClass : List Node → List State → List (Vec Transition Global) → Event → Type 0
-IsGoodClass g states rows least = (q : ℕ) (row : Vec Transition Global) → slice_get rows q ≡ Some row → AreNoWays g states least q row.items
+IsGoodClass g states rows least = (q : ℕ) (row : Vec Transition Global) → slice_get rows q ≡ Some row
+    → AreNoWays g states least q row.items
 
 -- no move of the row has the event
 abbrev pub IsAbsent : Event → List Transition → Type 0

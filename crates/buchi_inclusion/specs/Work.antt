@@ -1,5 +1,6 @@
 -- What a search in depth has still to do. Each of its turns leaves less.
-use Rattle.std.specs.Prelude.{ℕ, ◌+◌, ◌*◌, ◌-◌, zero, suc, Bool, true, false, List, [], ◌∷◌, length, Option, Some, None, slice_get, Vec}
+use Rattle.std.specs.Prelude.{ℕ, ◌+◌, ◌*◌, ◌-◌, zero, suc, Bool, true, false, List, [], ◌∷◌, length, Option, Some, None}
+use Rattle.std.specs.Prelude.{slice_get, Vec}
 use Rattle.std.specs.declared.alloc.Global.{Global}
 use Rattle.buchi_inclusion.specs.declared.product.Transition.{Transition}
 use Rattle.buchi_inclusion.specs.declared.ranks.Search.{Search}

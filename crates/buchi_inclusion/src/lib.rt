@@ -3,6 +3,7 @@
 #![tactic(auto)]
 
 mod decision;
+pub mod extension;
 mod laws;
 mod product;
 mod ranks;
@@ -14,7 +15,7 @@ ghost use Rattle.trace_pairs.specs.Graph.{IsGraph};
 ghost use Rattle.buchi_inclusion.specs.Inclusion.{IsInclusion, IsProgress};
 
 use bumpalo::Bump;
-pub use cyc_memory::OutOfMemory;
+pub use cyc_basics::memory::OutOfMemory;
 use decision::{decide, lasso_of};
 pub use laws::{answers_agree, descends, product_decides};
 use product::explore;
@@ -23,7 +24,7 @@ pub use system::{Checked, check_system};
 use trace_pairs::{Lasso, TraceGraph};
 
 /// The greatest number of product states that a check of a proof, or a search for one, explores.
-pub const MOST_STATES: u32 = 200_000;
+pub const MOST_PRODUCT_STATES: u32 = 200_000;
 
 /// What is known of a graph: every lasso progresses; a lasso that doesn't; or that there are more product states than
 /// the limit. A product state is a node with an age forest; those count that a path from node 0 leads to.
@@ -63,7 +64,11 @@ pub enum Progress {
 }
 
 /// Whether every lasso of the graph progresses, if there are at most `limit` product states.
-pub fn decides(alloc: Global, graph: &TraceGraph, limit: u32) -> Result<Progress, OutOfMemory>
+pub fn all_lassos_progress(
+    alloc: Global,
+    graph: &TraceGraph,
+    limit: u32,
+) -> Result<Progress, OutOfMemory>
     requires graph { IsGraph graph.now }
     ensures { IfOk result (IsProgress graph.now limit) }
 {

@@ -10,7 +10,7 @@ ghost use Rattle.buchi_inclusion.specs.Product.{State, IsStart};
 
 use buchi_core::{AgeForest, Entry, Event, Stepper, entries_in, start};
 use bumpalo::Bump;
-use cyc_memory::OutOfMemory;
+use cyc_basics::memory::OutOfMemory;
 use indexmap::IndexSet;
 use std::alloc::Global;
 use trace_pairs::TraceGraph;

@@ -1,5 +1,5 @@
-//! Ranks of states that rise along the moves whose events aren't earlier than a least one: a state isn't led to from one
-//! of a greater rank.
+//! Ranks of states that rise along the moves whose events aren't earlier than a least one: a state isn't led to from
+//! one of a greater rank.
 //!
 //! The ranks are those of the strongly connected components, sources first, found by one search in depth (Tarjan 1972).
 //! No clause says so: `are_rising` tests what the decision needs of them.
@@ -12,7 +12,7 @@ ghost use Rattle.buchi_inclusion.specs.Work.{edges_at, work_left};
 
 use crate::product::Transition;
 use buchi_core::{Event, earlier};
-use cyc_memory::OutOfMemory;
+use cyc_basics::memory::OutOfMemory;
 use std::alloc::Global;
 
 /// The number at a place, 0 if there is none.
@@ -42,8 +42,8 @@ fn lower(numbers: &mut Vec<u32>, place: usize, number: u32) {
 }
 
 /// A search in depth: numbers of the states in the order in which they are found, from 1; the least number that each is
-/// known to lead to within its component; the states whose component isn't complete; the states on the way, each with its
-/// next edge; and the ranks so far, 0 where there is none, with the last one that was given.
+/// known to lead to within its component; the states whose component isn't complete; the states on the way, each with
+/// its next edge; and the ranks so far, 0 where there is none, with the last one that was given.
 #[derive(Drop)]
 struct Search {
     found: u32,

@@ -9,7 +9,7 @@ ghost use Rattle.buchi_inclusion.specs.ClassWays.{IsClassItem, AreClassItems, Ha
 use crate::decision::Class;
 use crate::product::Transition;
 use buchi_core::earlier;
-use cyc_memory::OutOfMemory;
+use cyc_basics::memory::OutOfMemory;
 use std::alloc::Global;
 
 /// Whether the place is not marked, which it is then, if there is such a place.
@@ -33,8 +33,8 @@ fn row_at(rows: &[Vec<Transition>], place: usize) -> Option<&Vec<Transition>>
     rows.get(place)
 }
 
-/// Puts the target of an edge of the state at a place on the stack, if the move is one of the class and the target is not
-/// marked.
+/// Puts the target of an edge of the state at a place on the stack, if the move is one of the class and the target is
+/// not marked.
 fn push_target(
     class: &Class<'_>,
     start: usize,
@@ -103,8 +103,8 @@ fn push_row(
     }
 }
 
-/// Whether the search comes from the state at a place to that at another. Where it does not, no clause says that there is
-/// no way.
+/// Whether the search comes from the state at a place to that at another. Where it does not, no clause says that there
+/// is no way.
 pub fn is_reached(
     alloc: Global,
     class: &Class<'_>,

@@ -5,12 +5,12 @@ ghost use Rattle.trace_pairs.specs.System.{NoneFaulty};
 ghost use Rattle.buchi_inclusion.specs.Checked.{FindsFaulty, IsChecked};
 
 use crate::{Inclusion, included};
-use cyc_memory::OutOfMemory;
+use cyc_basics::memory::OutOfMemory;
 use std::alloc::Global;
 use trace_pairs::{Lasso, Node, ProofSystem, TraceGraph};
 
-/// What is known of a proof: it is accepted; its least faulty node; a lasso that doesn't progress; or that there are more
-/// product states than the limit.
+/// What is known of a proof: it is accepted; its least faulty node; a lasso that doesn't progress; or that there are
+/// more product states than the limit.
 #[derive(Drop)]
 pub enum Checked {
     Accepted,

@@ -1,3 +1,9 @@
+pub mod Files
+pub mod OneAnswer
+pub mod OneCheck
+pub mod OneFault
+pub mod OneReading
+pub mod Exits
 pub mod Alone
 pub mod Checks
 pub mod InPieces

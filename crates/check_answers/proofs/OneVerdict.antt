@@ -3,19 +3,19 @@ use Rattle.std.proofs.Common.{◌≡◌, ℕ, refl, sym, ap, subst, ◌∙◌, i
 use Rattle.std.specs.Prelude.{slice_get}
 use Rattle.heap_formula.specs.declared.proof_rules.RuleFault.{RuleFault}
 use Rattle.heap_formula.specs.Judgements.{JudgementHolds}
-use Rattle.node_reasons.specs.Graphs.{Node, node_fault}
+use Rattle.rule_book.specs.Graphs.{Node, node_fault}
 use Rattle.trace_pairs.specs.Lasso.{AllProgress, IsLasso, Progresses}
 use Rattle.buchi_inclusion.specs.Answers.{HasAtMost, HasMoreThan}
 use Rattle.buchi_inclusion.proofs.Exact.{not_both}
-use Rattle.cyc_texts.specs.Texts.{node_refused_text}
+use Rattle.cyc_runs.specs.Texts.{node_refused_text}
 use Rattle.proof_file.specs.declared.file.ProofFile.{ProofFile}
 use Rattle.proof_file.specs.Reading.{AreSame}
 use Rattle.proof_check.specs.Verdicts.{Verdict}
 use Rattle.logics.specs.declared.verdict.Verdict.TheVariants.{Accepted, RuleRefused, PathRefused, TooManyStates}
 use Rattle.proof_check.specs.Files.{AreRight, graph_of}
 use Rattle.proof_check.specs.Verdicts.{file_graph, state_limit, HasRightNodes, IsLeastFault, IsVerdict, RootHolds}
-use Rattle.reading_facts.specs.Alike.{AreOneCheck}
-use Rattle.reading_facts.proofs.OneCheck.{none_some, one_node, one_node_fault}
+use Rattle.check_answers.specs.Alike.{AreOneCheck}
+use Rattle.check_answers.proofs.OneCheck.{none_some, one_node, one_node_fault}
 use Rattle.check_answers.specs.Answers.{verdict_status, verdict_text}
 
 -- ---- files that say the same have the same verdicts
@@ -30,7 +30,8 @@ module _ (f g : ProofFile) (same : AreSame f g) where
       ∙ ap (λ nodes. graph_of g.defs.most g.defs.list g.program nodes) same.nodes
 
   -- and each node the same fault, or none
-  same_fault : (v : ℕ) (node : Node) → node_fault f.defs.most f.defs.list f.program f.nodes v node ≡ node_fault g.defs.most g.defs.list g.program g.nodes v node
+  same_fault : (v : ℕ) (node : Node) → node_fault f.defs.most f.defs.list f.program f.nodes v node
+      ≡ node_fault g.defs.most g.defs.list g.program g.nodes v node
   same_fault v node =
       ap (λ most. node_fault most f.defs.list f.program f.nodes v node) same.most
       ∙ ap (λ ds. node_fault g.defs.most ds f.program f.nodes v node) same.definitions
@@ -66,8 +67,11 @@ module _ (f g : ProofFile) (same : AreSame f g) where
   same_few few = subst (λ graph. HasAtMost graph state_limit) same_graph few
 
   pub same_verdict : (v : Verdict) → IsVerdict f v → IsVerdict g v
-  same_verdict Accepted is =
-      (record { nodes = same_right is.0.nodes; paths = subst AllProgress same_graph is.0.paths }, same_few is.1, same_root is.2)
+  same_verdict Accepted is = (
+    record { nodes = same_right is.0.nodes; paths = subst AllProgress same_graph is.0.paths },
+    same_few is.1,
+    same_root is.2,
+  )
   same_verdict (RuleRefused v fault) is = same_least v fault is
   same_verdict (PathRefused l) is = (
     same_right is.0,
@@ -84,7 +88,8 @@ pub right_faulty : (f : ProofFile) (v : ℕ) (fault : RuleFault) → HasRightNod
 right_faulty f v fault right least = none_some fault _ (right v least.node least.at) least.first
 
 -- the least faulty node is one, and so is its line
-one_refusal : (f : ProofFile) (v w : ℕ) (x y : RuleFault) → IsLeastFault f v x → IsLeastFault f w y → node_refused_text v x ≡ node_refused_text w y
+one_refusal : (f : ProofFile) (v w : ℕ) (x y : RuleFault) → IsLeastFault f v x → IsLeastFault f w y
+    → node_refused_text v x ≡ node_refused_text w y
 one_refusal f v w x y a b =
     let fault_of = node_fault f.defs.most f.defs.list f.program f.nodes in
     let node = one_node f.nodes fault_of v w a.node b.node x y a.at b.at a.first b.first a.before b.before in
@@ -92,7 +97,8 @@ one_refusal f v w x y a b =
     λ i. node_refused_text (node i) (fault i)
 
 -- the verdicts on a file end a check in one way, and say the same but for the lasso
-pub one_verdict : (f : ProofFile) (v w : Verdict) → IsVerdict f v → IsVerdict f w → (verdict_status v ≡ verdict_status w) × AreOneCheck (verdict_text f.nodes v) (verdict_text f.nodes w)
+pub one_verdict : (f : ProofFile) (v w : Verdict) → IsVerdict f v → IsVerdict f w
+    → (verdict_status v ≡ verdict_status w) × AreOneCheck (verdict_text f.nodes v) (verdict_text f.nodes w)
 one_verdict f Accepted Accepted a b = (refl, inl refl)
 one_verdict f Accepted (RuleRefused n fault) a b = absurd (right_faulty f n fault a.0.nodes b)
 one_verdict f Accepted (PathRefused l) a b = absurd (b.2 (a.0.paths l b.1))

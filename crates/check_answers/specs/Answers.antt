@@ -1,6 +1,7 @@
 -- What is answered to a proof file, and to words, and what an answer says of what was told.
-use Rattle.std.specs.Prelude.{◌≡◌, ◌+◌, ◌≤◌, ℕ, zero, suc, List, [], ◌∷◌, length, codes, count_by, Option, Result, Ok, Err, Bool}
-use Rattle.cyc_texts.specs.Texts.{accepted_text, node_refused_text, path_refused_text, states_limit_text}
+use Rattle.std.specs.Prelude.{◌≡◌, ◌+◌, ◌≤◌, ℕ, zero, suc, List, [], ◌∷◌, length, codes, count_by, Option, Result, Ok}
+use Rattle.std.specs.Prelude.{Err, Bool}
+use Rattle.cyc_runs.specs.Texts.{accepted_text, node_refused_text, path_refused_text, states_limit_text}
 use Rattle.cyc_lex.specs.declared.fault.ReadFault.{ReadFault}
 use Rattle.proof_file.specs.FileNodes.{FileNode}
 use Rattle.proof_file.specs.declared.file.ProofFile.{ProofFile}
@@ -46,18 +47,21 @@ verdict_text nodes TooManyStates = states_limit_text
 -- a check that read its input so is answered so; out of memory is no fault of the input
 abbrev pub IsReadAnswer : Result ProofFile ReadFault → Status → List ℕ → Type 0
 IsReadAnswer (Ok file) ending text =
-    (verdict : Verdict) × IsVerdict file verdict × (ending ≡ verdict_status verdict) × (text ≡ verdict_text file.nodes verdict)
+    (verdict : Verdict) × IsVerdict file verdict × (ending ≡ verdict_status verdict)
+    × (text ≡ verdict_text file.nodes verdict)
 IsReadAnswer (Err fault) ending text = IsFaultAnswer fault ending text
 
 -- the input is read, and answered so
 abbrev pub IsChecked : Answering
 IsChecked input ending text =
-    (length input ≤ input_limit) × (read : Result ProofFile ReadFault) × IsRead input read × IsReadAnswer read ending text
+    (length input ≤ input_limit) × (read : Result ProofFile ReadFault) × IsRead input read
+    × IsReadAnswer read ending text
 
 -- the text that a reader, which holds this of it, reads with this rest is answered so
 abbrev pub IsCheckedFrom : Parts → Answering
 IsCheckedFrom held rest ending text =
-    (bytes_fed held + length rest ≤ input_limit) × (read : Result ProofFile ReadFault) × FileFrom held rest read × IsReadAnswer read ending text
+    (bytes_fed held + length rest ≤ input_limit) × (read : Result ProofFile ReadFault) × FileFrom held rest read
+    × IsReadAnswer read ending text
 
 -- some input, which is the one that was told, spells a file of which this is true
 abbrev pub ToldFileOf : (ProofFile → Type 0) → Option (List ℕ) → Type 0

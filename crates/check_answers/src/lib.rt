@@ -1,4 +1,5 @@
-//! The answers of the command `check`; and the top call of the checker alone: a source of bytes in, one line and a status out.
+//! The answers of the command `check`; and the top call of the checker alone: a source of bytes in, one line and a
+//! status out.
 #![tactic(auto)]
 
 ghost use Rattle.std.specs.Prelude.{◌≡◌, ◌≢◌, ◌+◌, ◌≤◌, ◌⊎◌, ℕ, List, length, true, Some, Ok};
@@ -23,8 +24,8 @@ use std::alloc::Global;
 use verdicts::Checker;
 pub use verdicts::links_of;
 
-/// Does what the command `check` does: reads the source in pieces to its end, as a proof file, and writes the line of the
-/// verdict or of the input's first fault.
+/// Does what the command `check` does: reads the source in pieces to its end, as a proof file, and writes the line of
+/// the verdict or of the input's first fault.
 pub fn check_input<S: Source, K: Sink>(alloc: Global, src: &mut S, out: &mut K) -> Status
     // The text of the answer to the bytes that the source told was written, whole.
     ensures answered { is_answer result ≡ true
@@ -39,15 +40,15 @@ pub fn check_input<S: Source, K: Sink>(alloc: Global, src: &mut S, out: &mut K) 
     // Neither a failed read nor a failed write ends so.
     ensures memory { result ≡ Status.OutOfMemory → (out.new ≡ out.old) × (S.faults src.new ≡ S.faults src.old) }
     // After a failed read or write no answer is given.
-    ensures calm { is_answer result ≡ true
+    ensures no_faults { is_answer result ≡ true
         → (S.faults src.new ≡ S.faults src.old) × (K.faults out.new ≡ K.faults out.old) }
     ensures counted { (S.faults src.old ≤ S.faults src.new) × (K.faults out.old ≤ K.faults out.new) }
 {
     run_in_pieces(alloc, Checker::new(alloc), src, out)
 }
 
-/// Checks the proof file that the source holds, if there are no words beyond the program's name; any word gives the usage.
-/// The whole line is made before its first byte is written.
+/// Checks the proof file that the source holds, if there are no words beyond the program's name; any word gives the
+/// usage. The whole line is made before its first byte is written.
 pub fn run<S: Source, K: Sink>(alloc: Global, words: &[String], src: &mut S, out: &mut K) -> Status
     // The line of the answer to the words and to the bytes that the source told was written, whole.
     ensures answered { is_answer result ≡ true
@@ -74,7 +75,7 @@ pub fn run<S: Source, K: Sink>(alloc: Global, words: &[String], src: &mut S, out
     ensures write_fault { result ≡ Status.WriteFault → Rose (K.faults out.old) (K.faults out.new)
         × WrotePart (IsAnswer (length words.now)) (S.left src.old) (K.written out.old) (K.written out.new) }
     ensures memory { result ≡ Status.OutOfMemory → (out.new ≡ out.old) × (S.faults src.new ≡ S.faults src.old) }
-    ensures calm { is_answer result ≡ true
+    ensures no_faults { is_answer result ≡ true
         → (S.faults src.new ≡ S.faults src.old) × (K.faults out.new ≡ K.faults out.old) }
     ensures counted { (S.faults src.old ≤ S.faults src.new) × (K.faults out.old ≤ K.faults out.new) }
     // Words leave the source as it was.

@@ -9,14 +9,14 @@ ghost use Rattle.cyc_runs.specs.Exits.{EndedBy, Wrote};
 ghost use Rattle.check_answers.specs.Answers.{IsAnswer, ToldFileOf};
 
 use crate::run;
+use cyc_basics::memory::OutOfMemory;
 use cyc_io::{Sink, Source};
-use cyc_memory::OutOfMemory;
 use cyc_runs::exit_code;
 use std::alloc::Global;
 use std::process::ExitCode;
 
-/// What `main` does with the words of its command line, where memory held them, and with standard input and output: a run,
-/// and the number of its status.
+/// What `main` does with the words of its command line, where memory held them, and with standard input and output: a
+/// run, and the number of its status.
 pub fn run_program<S: Source, K: Sink>(
     alloc: Global,
     words: Result<Vec<String>, OutOfMemory>,
@@ -30,7 +30,8 @@ pub fn run_program<S: Source, K: Sink>(
     ensures headline { exit_status result ≡ 0 → ToldFileOf RootHolds (S.left src.old) }
     // 1: what was refused is not correct.
     ensures refusal { exit_status result ≡ 1 → ToldFileOf (λ file. ¬ IsCorrect file) (S.left src.old) }
-    // Where the words have this answer for the told bytes, the number is its status's, or 9, unless a read or a write fails.
+    // Where the words have this answer for the told bytes, the number is its status's, or 9, unless a read or a write
+    // fails.
     ensures exact { IfOk words (λ w. (input : List ℕ) (status : Status) (text : List ℕ) → S.left src.old ≡ Some input
         → IsAnswer (length w.items) input status text
         → ¬ Rose (S.faults src.old) (S.faults src.new) → ¬ Rose (K.faults out.old) (K.faults out.new)

@@ -5,9 +5,9 @@ ghost use Rattle.file_reader.specs.Stages.{fresh};
 ghost use Rattle.proof_file.specs.Links.{is_link as links};
 ghost use Rattle.check_answers.specs.Answers.{link_count, nodes_text, verdict_status, verdict_text};
 
-use cyc_memory::OutOfMemory;
+use cyc_basics::memory::OutOfMemory;
+use cyc_runs::texts::{accepted_line, node_refused_line, path_refused_line};
 use cyc_runs::{Answer, PiecewiseTool, Status, answer_to_fault, fixed_answer};
-use cyc_texts::{accepted_line, node_refused_line, path_refused_line};
 use file_reader::FileReader;
 use heap_formula::Reason;
 use proof_check::{Verdict, check};

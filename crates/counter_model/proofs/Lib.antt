@@ -1,3 +1,10 @@
+pub mod Loops
+pub mod UnionsOf
+pub mod LocalLists
+pub mod Turns
+pub mod AtomSteps
+pub mod Settled
+pub mod Complete
 pub mod Renaming
 pub mod Tight
 pub mod TightFirst
@@ -8,3 +15,5 @@ pub mod Widths
 pub mod Finish
 pub mod OnePlace
 pub mod Refusals
+pub mod ModelTrees
+pub mod PlainCells

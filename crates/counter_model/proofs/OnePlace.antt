@@ -39,13 +39,15 @@ one_case (d ∷ ds) zero c (suc q) e a b = absurd (none_bad d.cases c b.0 a)
 one_case (d ∷ ds) (suc p) c zero e a b = absurd (none_bad d.cases e a.0 b)
 one_case (d ∷ ds) (suc p) c (suc q) e a b = one_case ds p c q e a.1 b.1
 
-pub one_place : (ds : List Definition) (asks : List SymbolicHeap) (x y : Place) → IsPlace ds asks x → IsPlace ds asks y → x ≡ y
+pub one_place : (ds : List Definition) (asks : List SymbolicHeap) (x y : Place) → IsPlace ds asks x → IsPlace ds asks y
+    → x ≡ y
 one_place ds asks (Case p c) (Case q e) a b =
     let s = one_predicate ds p c q e a b in let t = one_case ds p c q e a b in λ i. Case (s i) (t i)
 one_place ds asks (Case p c) (Ask d) a b = absurd (none_bad_case ds p c b.0 a)
 one_place ds asks (Ask d) (Case q e) a b = absurd (none_bad_case ds q e a.0 b)
 one_place ds asks (Ask d) (Ask e) a b = ap Ask (one_bad asks d e a.1 b.1)
 
-pub no_place : (ds : List Definition) (asks : List SymbolicHeap) (x : Place) → AreConstructive ds → Each IsConstructive asks → IsPlace ds asks x → ⊥
+pub no_place : (ds : List Definition) (asks : List SymbolicHeap) (x : Place) → AreConstructive ds
+    → Each IsConstructive asks → IsPlace ds asks x → ⊥
 no_place ds asks (Case p c) a b k = none_bad_case ds p c a k
 no_place ds asks (Ask d) a b k = none_bad asks d b k.1

@@ -1,5 +1,6 @@
 -- Addresses change places: formulas say the same of the renamed stack and heap.
-use Rattle.std.proofs.Common.{◌≡◌, ℕ, zero, suc, ◌<◌, List, [], ◌∷◌, length, Bool, true, false, cond, Option, Some, None, refl, sym, ap, ◌∙◌, subst, arith, map}
+use Rattle.std.proofs.Common.{◌≡◌, ℕ, zero, suc, ◌<◌, List, [], ◌∷◌, length, Bool, true, false, cond, Option, Some}
+use Rattle.std.proofs.Common.{None, refl, sym, ap, ◌∙◌, subst, arith, map}
 use Rattle.std.specs.Prelude.{slice_index}
 use Rattle.std.specs.Ordering.{nat_cmp, eq_by_cmp}
 use Rattle.std.specs.Cmp.{nat_cmp_total, eq_by_cmp_equiv}
@@ -15,10 +16,11 @@ use Rattle.heap_formula.specs.Definitions.{Definition}
 use Rattle.heap_formula.specs.Words.{Each}
 use Rattle.heap_formula.specs.Values.{Stack, value, values}
 use Rattle.heap_formula.specs.Cells.{Cells, cell_at, no_cells, one_cell, Joins, IsUnion}
-use Rattle.heap_formula.specs.Meaning.{Family, PureHolds, IsCell, AtomHolds, SpatialHolds, CaseHolds, cases_of, at_stage, Satisfies, SatisfiesOne}
+use Rattle.heap_formula.specs.Meaning.{Family, PureHolds, IsCell, AtomHolds, SpatialHolds, CaseHolds, cases_of}
+use Rattle.heap_formula.specs.Meaning.{at_stage, Satisfies, SatisfiesOne}
 use Rattle.heap_formula.proofs.Unions.{same_cells}
 use Rattle.heap_formula.proofs.StageLaws.{OneOf-map}
-use Rattle.list_facts.proofs.Tests.{bool_same}
+use Rattle.cyc_basics.proofs.Tests.{bool_same}
 use Rattle.heap_formula.proofs.Insertions.{same_address}
 use Rattle.heap_formula.proofs.HeapLaws.{one_cell_at}
 
@@ -39,17 +41,22 @@ module _ (swap : ℕ → ℕ) (twice : (x : ℕ) → swap (swap x) ≡ x) (at_ze
   renamed h = from_entries (map (λ e. (swap e.0, map swap e.1)) (entries h))
 
   swapped_eq : (q k : ℕ) → eq_by_cmp nat_cmp q (swap k) ≡ eq_by_cmp nat_cmp (swap q) k
-  swapped_eq q k = bool_same _ _ (λ t. address_same (swap q) k (ap swap (same_address q (swap k) t) ∙ twice k)) (λ t. address_same q (swap k) (sym (twice q) ∙ ap swap (same_address (swap q) k t)))
+  swapped_eq q k = bool_same _ _ (λ t. address_same (swap q) k (ap swap (same_address q (swap k) t) ∙ twice k))
+      (λ t. address_same q (swap k) (sym (twice q) ∙ ap swap (same_address (swap q) k t)))
 
-  find_renamed : (es : List (ℕ × List ℕ)) (q : ℕ) → find nat_cmp q (map (λ e. (swap e.0, map swap e.1)) es) ≡ over (map swap) (find nat_cmp (swap q) es)
+  find_renamed : (es : List (ℕ × List ℕ)) (q : ℕ) → find nat_cmp q (map (λ e. (swap e.0, map swap e.1)) es)
+      ≡ over (map swap) (find nat_cmp (swap q) es)
   find_renamed [] q = refl
   find_renamed (e ∷ es) q =
-      ap (λ b. cond b (Some (map swap e.1)) (find nat_cmp q (map (λ d. (swap d.0, map swap d.1)) es))) (swapped_eq q e.0) ∙ ap (cond (eq_by_cmp nat_cmp (swap q) e.0) (Some (map swap e.1))) (find_renamed es q) ∙ sym (over_cond (map swap) (eq_by_cmp nat_cmp (swap q) e.0) (Some e.1) (find nat_cmp (swap q) es))
+      ap (λ b. cond b (Some (map swap e.1)) (find nat_cmp q (map (λ d. (swap d.0, map swap d.1)) es)))
+      (swapped_eq q e.0) ∙ ap (cond (eq_by_cmp nat_cmp (swap q) e.0) (Some (map swap e.1))) (find_renamed es q)
+      ∙ sym (over_cond (map swap) (eq_by_cmp nat_cmp (swap q) e.0) (Some e.1) (find nat_cmp (swap q) es))
 
   pub at_renamed : (h : Cells) (q : ℕ) → cell_at (renamed h) q ≡ over (map swap) (cell_at h (swap q))
   unfolding renamed
   at_renamed h q =
-      get-from_entries nat_cmp_total (map (λ e. (swap e.0, map swap e.1)) (entries h)) q ∙ find_renamed (entries h) q ∙ ap (over (map swap)) (sym (get-entries h (swap q)))
+      get-from_entries nat_cmp_total (map (λ e. (swap e.0, map swap e.1)) (entries h)) q ∙ find_renamed (entries h) q
+      ∙ ap (over (map swap)) (sym (get-entries h (swap q)))
 
   pub map_twice : (vs : List ℕ) → map swap (map swap vs) ≡ vs
   map_twice [] = refl
@@ -60,7 +67,8 @@ module _ (swap : ℕ → ℕ) (twice : (x : ℕ) → swap (swap x) ≡ x) (at_ze
   over_twice (Some vs) = ap Some (map_twice vs)
 
   pub renamed_twice : (h : Cells) → renamed (renamed h) ≡ h
-  renamed_twice h = same_cells _ _ (λ q. at_renamed (renamed h) q ∙ ap (over (map swap)) (at_renamed h (swap q)) ∙ ap (λ x. over (map swap) (over (map swap) (cell_at h x))) (twice q) ∙ over_twice (cell_at h q))
+  renamed_twice h = same_cells _ _ (λ q. at_renamed (renamed h) q ∙ ap (over (map swap)) (at_renamed h (swap q))
+      ∙ ap (λ x. over (map swap) (over (map swap) (cell_at h x))) (twice q) ∙ over_twice (cell_at h q))
 
   index_renamed : (s : Stack) (n : ℕ) → slice_index (map swap s) n ≡ swap (slice_index s n)
   index_renamed [] n = sym at_zero
@@ -83,25 +91,32 @@ module _ (swap : ℕ → ℕ) (twice : (x : ℕ) → swap (swap x) ≡ x) (at_ze
   pure_renamed s e (Eq t u) p = value_renamed s e t ∙ ap swap p ∙ sym (value_renamed s e u)
   pure_renamed s e (Neq t u) p = λ q. p (injective _ _ (sym (value_renamed s e t) ∙ q ∙ value_renamed s e u))
 
-  pures_renamed : (s e : Stack) (xs : List Pure) → Each (PureHolds s e) xs → Each (PureHolds (map swap s) (map swap e)) xs
+  pures_renamed : (s e : Stack) (xs : List Pure) → Each (PureHolds s e) xs
+      → Each (PureHolds (map swap s) (map swap e)) xs
   pures_renamed s e [] p = tt
   pures_renamed s e (x ∷ xs) p = (pure_renamed s e x p.0, pures_renamed s e xs p.1)
 
-  joins_renamed : (x y r : Option (List ℕ)) → Joins x y r → Joins (over (map swap) x) (over (map swap) y) (over (map swap) r)
+  joins_renamed : (x y r : Option (List ℕ)) → Joins x y r
+      → Joins (over (map swap) x) (over (map swap) y) (over (map swap) r)
   joins_renamed None y r j = ap (over (map swap)) j
   joins_renamed (Some x) None r j = ap (over (map swap)) j
   joins_renamed (Some x) (Some y) r j = absurd j
 
   union_renamed : (l r h : Cells) → IsUnion l r h → IsUnion (renamed l) (renamed r) (renamed h)
   union_renamed l r h u = record {
-    joins = λ q. rw (at_renamed l q, at_renamed r q, at_renamed h q) (joins_renamed (cell_at l (swap q)) (cell_at r (swap q)) (cell_at h (swap q)) (u.joins (swap q)));
+    joins = λ q. rw (at_renamed l q, at_renamed r q, at_renamed h q)
+        (joins_renamed (cell_at l (swap q)) (cell_at r (swap q)) (cell_at h (swap q)) (u.joins (swap q)));
   }
 
   none_renamed : renamed no_cells ≡ no_cells
-  none_renamed = same_cells _ _ (λ q. at_renamed no_cells q ∙ ap (over (map swap)) (get-empty nat_cmp (swap q)) ∙ sym (get-empty nat_cmp q))
+  none_renamed = same_cells _ _ (λ q. at_renamed no_cells q ∙ ap (over (map swap)) (get-empty nat_cmp (swap q))
+      ∙ sym (get-empty nat_cmp q))
 
   one_renamed : (a : ℕ) (vs : List ℕ) → renamed (one_cell a vs) ≡ one_cell (swap a) (map swap vs)
-  one_renamed a vs = same_cells _ _ (λ q. at_renamed (one_cell a vs) q ∙ ap (over (map swap)) (one_cell_at a vs (swap q)) ∙ over_cond (map swap) (eq_by_cmp nat_cmp (swap q) a) (Some vs) None ∙ ap (λ b. cond b (Some (map swap vs)) None) (sym (swapped_eq q a)) ∙ sym (one_cell_at (swap a) (map swap vs) q))
+  one_renamed a vs = same_cells _ _ (λ q. at_renamed (one_cell a vs) q
+      ∙ ap (over (map swap)) (one_cell_at a vs (swap q)) ∙ over_cond (map swap) (eq_by_cmp nat_cmp (swap q) a) (Some vs)
+      None ∙ ap (λ b. cond b (Some (map swap vs)) None) (sym (swapped_eq q a))
+      ∙ sym (one_cell_at (swap a) (map swap vs) q))
 
   length_renamed : (vs : List ℕ) → length (map swap vs) ≡ length vs
   length_renamed [] = refl
@@ -122,13 +137,18 @@ module _ (swap : ℕ → ℕ) (twice : (x : ℕ) → swap (swap x) ≡ x) (at_ze
   )
 
   module _ (P : Family) (same : (p : ℕ) (vs : List ℕ) (h : Cells) → P p vs h → P p (map swap vs) (renamed h)) where
-    atom_renamed : (s e : Stack) (x : Spatial) (h : Cells) → AtomHolds P s e x h → AtomHolds P (map swap s) (map swap e) x (renamed h)
+    atom_renamed : (s e : Stack) (x : Spatial) (h : Cells) → AtomHolds P s e x h
+        → AtomHolds P (map swap s) (map swap e) x (renamed h)
     atom_renamed s e (Cell t ts) h a =
         let c = cell_renamed (value s e t) (values s e ts) h a in
-        subst (λ v. IsCell v (values (map swap s) (map swap e) ts) (renamed h)) (sym (value_renamed s e t)) (subst (λ us. IsCell (swap (value s e t)) us (renamed h)) (sym (values_renamed s e ts)) c)
-    atom_renamed s e (Pred p ts) h a = subst (λ us. P p us (renamed h)) (sym (values_renamed s e ts)) (same p (values s e ts) h a)
+        subst (λ v. IsCell v (values (map swap s) (map swap e) ts) (renamed h)) (sym (value_renamed s e t))
+        (subst (λ us. IsCell (swap (value s e t)) us (renamed h)) (sym (values_renamed s e ts)) c)
+    atom_renamed s e (Pred p ts) h a = subst (λ us. P p us (renamed h)) (sym (values_renamed s e ts))
+        (same p (values s e ts) h a)
 
-  spatial_renamed : (P : ℕ → Family) → ((k p : ℕ) (vs : List ℕ) (h : Cells) → P k p vs h → P k p (map swap vs) (renamed h)) → (s e : Stack) (xs : List Spatial) (h : Cells) → SpatialHolds P s e xs h → SpatialHolds P (map swap s) (map swap e) xs (renamed h)
+  spatial_renamed : (P : ℕ → Family) → ((k p : ℕ) (vs : List ℕ) (h : Cells) → P k p vs h
+      → P k p (map swap vs) (renamed h)) → (s e : Stack) (xs : List Spatial) (h : Cells) → SpatialHolds P s e xs h
+      → SpatialHolds P (map swap s) (map swap e) xs (renamed h)
   spatial_renamed P same s e [] h a = ap renamed a ∙ none_renamed
   spatial_renamed P same s e (x ∷ xs) h a =
       record {
@@ -139,16 +159,37 @@ module _ (swap : ℕ → ℕ) (twice : (x : ℕ) → swap (swap x) ≡ x) (at_ze
         others = spatial_renamed (λ k. P (suc k)) (λ k. same (suc k)) s e xs a.rest a.others;
       }
 
-  stage_renamed : (ds : List Definition) (n p : ℕ) (vs : List ℕ) (h : Cells) → at_stage ds n p vs h → at_stage ds n p (map swap vs) (renamed h)
+  stage_renamed : (ds : List Definition) (n p : ℕ) (vs : List ℕ) (h : Cells) → at_stage ds n p vs h
+      → at_stage ds n p (map swap vs) (renamed h)
   stage_renamed ds zero p vs h a = absurd a
   stage_renamed ds (suc n) p vs h a =
-      OneOf-map (CaseHolds (at_stage ds n) vs h) (CaseHolds (at_stage ds n) (map swap vs) (renamed h)) (λ b c. (map swap c.0, (pures_renamed vs c.0 b.pure c.1.0, spatial_renamed (λ _. at_stage ds n) (λ k q us g x. stage_renamed ds n q us g x) vs c.0 b.spatial h c.1.1))) (cases_of ds p) a
+      OneOf-map (CaseHolds (at_stage ds n) vs h) (CaseHolds (at_stage ds n) (map swap vs) (renamed h))
+      (λ b c. (
+        map swap c.0,
+        (
+          pures_renamed vs c.0 b.pure c.1.0,
+          spatial_renamed (λ _. at_stage ds n) (λ k q us g x. stage_renamed ds n q us g x) vs c.0 b.spatial h c.1.1,
+        ),
+      ))
+      (cases_of ds p) a
 
-  pub satisfies_renamed : (ds : List Definition) (s : Stack) (h : Cells) (a : SymbolicHeap) → Satisfies ds s h a → Satisfies ds (map swap s) (renamed h) a
-  satisfies_renamed ds s h a x =
-      (x.0, (map swap x.1.0, (pures_renamed s x.1.0 a.pure x.1.1.0, spatial_renamed (λ k. at_stage ds (x.0 k)) (λ k q us g y. stage_renamed ds (x.0 k) q us g y) s x.1.0 a.spatial h x.1.1.1)))
+  pub satisfies_renamed : (ds : List Definition) (s : Stack) (h : Cells) (a : SymbolicHeap) → Satisfies ds s h a
+      → Satisfies ds (map swap s) (renamed h) a
+  satisfies_renamed ds s h a x = (
+    x.0,
+    (
+      map swap x.1.0,
+      (
+        pures_renamed s x.1.0 a.pure x.1.1.0,
+        spatial_renamed (λ k. at_stage ds (x.0 k)) (λ k q us g y. stage_renamed ds (x.0 k) q us g y)
+            s x.1.0 a.spatial h x.1.1.1,
+      ),
+    ),
+  )
 
-  pub one_renamed_back : (ds : List Definition) (s : Stack) (h : Cells) (bs : List SymbolicHeap) → SatisfiesOne ds (map swap s) (renamed h) bs → SatisfiesOne ds s h bs
+  pub one_renamed_back : (ds : List Definition) (s : Stack) (h : Cells) (bs : List SymbolicHeap)
+      → SatisfiesOne ds (map swap s) (renamed h) bs → SatisfiesOne ds s h bs
   one_renamed_back ds s h bs o = OneOf-map (Satisfies ds (map swap s) (renamed h)) (Satisfies ds s h) (λ b x.
       let y = satisfies_renamed ds (map swap s) (renamed h) b x in
-      subst (λ g. Satisfies ds s g b) (renamed_twice h) (subst (λ t. Satisfies ds t (renamed (renamed h)) b) (map_twice s) y)) bs o
+      subst (λ g. Satisfies ds s g b) (renamed_twice h)
+      (subst (λ t. Satisfies ds t (renamed (renamed h)) b) (map_twice s) y)) bs o

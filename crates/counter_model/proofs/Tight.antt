@@ -1,5 +1,6 @@
 -- The first stack with a counter-model names new values in ascending order.
-use Rattle.std.proofs.Common.{◌≡◌, ◌≢◌, ℕ, zero, suc, ◌+◌, ◌<◌, ◌≤◌, max, List, [], ◌∷◌, length, Option, Some, None, refl, sym, ap, ◌∙◌, subst, inl, inr, ◌⊎◌, arith, map}
+use Rattle.std.proofs.Common.{◌≡◌, ◌≢◌, ℕ, zero, suc, ◌+◌, ◌<◌, ◌≤◌, max, List, [], ◌∷◌, length, Option, Some, None}
+use Rattle.std.proofs.Common.{refl, sym, ap, ◌∙◌, subst, inl, inr, ◌⊎◌, arith, map}
 use Rattle.std.specs.Prelude.{nat_eq, if◌then◌else◌}
 use Rattle.std.proofs.lemmas.Bool.{cases_Bool, eqb-true, eqb-false, eq-eqb, ne_eqb}
 use Rattle.std.specs.declared.cmp.Ordering.TheVariants.{Less, Equal}
@@ -35,14 +36,20 @@ unfolding transposed
 transposed_other x y k a b = rw (ne_eqb k x a, ne_eqb k y b) refl
 
 either_same : (k x : ℕ) → (k ≡ x) ⊎ (k ≢ x)
-either_same k x = elim (cases_Bool (nat_eq k x)) [ inl yes' ↦ inl (eqb-true k x yes') | inr no' ↦ inr (eqb-false k x no') ]
+either_same k x = elim (cases_Bool (nat_eq k x)) [
+  | inl yes' ↦ inl (eqb-true k x yes')
+  | inr no' ↦ inr
+      (eqb-false k x no')
+]
 
 pub transposed_twice : (x y k : ℕ) → transposed x y (transposed x y k) ≡ k
 transposed_twice x y k = elim (either_same k x) [
-  | inl e ↦ ap (λ j. transposed x y (transposed x y j)) e ∙ ap (transposed x y) (transposed_first x y) ∙ transposed_second x y ∙ sym e
+  | inl e ↦ ap (λ j. transposed x y (transposed x y j)) e ∙ ap (transposed x y) (transposed_first x y)
+      ∙ transposed_second x y ∙ sym e
   | inr a ↦
       elim (either_same k y) [
-        | inl e ↦ ap (λ j. transposed x y (transposed x y j)) e ∙ ap (transposed x y) (transposed_second x y) ∙ transposed_first x y ∙ sym e
+        | inl e ↦ ap (λ j. transposed x y (transposed x y j)) e ∙ ap (transposed x y) (transposed_second x y)
+            ∙ transposed_first x y ∙ sym e
         | inr b ↦ ap (transposed x y) (transposed_other x y k a b) ∙ transposed_other x y k a b
       ]
 ]
@@ -89,7 +96,8 @@ lowers m n (v ∷ s) e (inr b) =
     let k : transposed r.x r.y v ≡ v = transposed_other r.x r.y v (omega arith) (omega arith) in
     record { x = r.x; y = r.y; above = omega arith; order = o; most = r.most; less = rw (k, same_cmp v) r.less }
 
-entries_le : (x y n : ℕ) (vs : List ℕ) → x ≤ n → y ≤ n → Each (λ v. v ≤ n) vs → Each (λ v. v ≤ n) (map (transposed x y) vs)
+entries_le : (x y n : ℕ) (vs : List ℕ) → x ≤ n → y ≤ n → Each (λ v. v ≤ n) vs
+    → Each (λ v. v ≤ n) (map (transposed x y) vs)
 entries_le x y n [] a b e = tt
 entries_le x y n (v ∷ vs) a b e = (transposed_le x y n v a b e.0, entries_le x y n vs a b e.1)
 
@@ -97,7 +105,8 @@ length_map : (f : ℕ → ℕ) (vs : List ℕ) → length (map f vs) ≡ length 
 length_map f [] = refl
 length_map f (v ∷ vs) = ap suc (length_map f vs)
 
-over_some : (f : List ℕ → List ℕ) (o : Option (List ℕ)) (vs : List ℕ) → over f o ≡ Some vs → (us : List ℕ) × (o ≡ Some us) × (vs ≡ f us)
+over_some : (f : List ℕ → List ℕ) (o : Option (List ℕ)) (vs : List ℕ) → over f o ≡ Some vs
+    → (us : List ℕ) × (o ≡ Some us) × (vs ≡ f us)
 over_some f None vs e = absurd (let b : None ≡ Some vs = e in cc)
 over_some f (Some us) vs e = (us, refl, (let b : Some (f us) ≡ Some vs = e in cc))
 
@@ -106,11 +115,15 @@ back_range x y n zero a b c p q =
     let z : transposed x y 0 ≡ 0 = transposed_other x y 0 (omega arith) (omega arith) in
     absurd (let p' : 0 < 0 = subst (λ k. 0 < k) z p in omega arith)
 back_range x y n (suc d) a b c p q =
-    let l : transposed x y (transposed x y (suc d)) ≤ n = transposed_le x y n (transposed x y (suc d)) (omega arith) c q in
+    let l : transposed x y (transposed x y (suc d)) ≤ n = transposed_le x y n (transposed x y (suc d)) (omega arith) c q
+    in
     (omega arith, subst (λ k. k ≤ n) (transposed_twice x y (suc d)) l)
 
 -- a stack that skips a value has a counter-model only if an earlier stack has one
-pub earlier : (ds : List Definition) (a : SymbolicHeap) (bs : List SymbolicHeap) (n long : ℕ) (IsCount : ℕ → Type 0) (s : Stack) (h : Cells) → Breaks 0 s → IsOfSize n long IsCount s h → IsCounter ds a bs s h → (s' : Stack) × (h' : Cells) × IsOfSize n long IsCount s' h' × IsCounter ds a bs s' h' × (slice_cmp nat_cmp s' s ≡ Less)
+pub earlier : (ds : List Definition) (a : SymbolicHeap) (bs : List SymbolicHeap) (n long : ℕ) (IsCount : ℕ → Type 0)
+    (s : Stack) (h : Cells) → Breaks 0 s → IsOfSize n long IsCount s h → IsCounter ds a bs s h
+    → (s' : Stack) × (h' : Cells) × IsOfSize n long IsCount s' h' × IsCounter ds a bs s' h'
+    × (slice_cmp nat_cmp s' s ≡ Less)
 earlier ds a bs n long IsCount s h b z c =
     let r = lowers 0 n s z.entries b in
     let o : r.x < r.y = r.order in
@@ -120,7 +133,8 @@ earlier ds a bs n long IsCount s h b z c =
     let w = transposed_twice r.x r.y in
     let f0 : f 0 ≡ 0 = transposed_other r.x r.y 0 (omega arith) (omega arith) in
     let g = renamed f w f0 h in
-    let old = λ (d : ℕ) (vs : List ℕ) (e : cell_at g d ≡ Some vs). over_some (map f) (cell_at h (f d)) vs (sym (at_renamed f w f0 h d) ∙ e) in (
+    let old = λ (d : ℕ) (vs : List ℕ) (e : cell_at g d ≡ Some vs). over_some (map f) (cell_at h (f d)) vs
+    (sym (at_renamed f w f0 h d) ∙ e) in (
       map f s,
       g,
       record {
@@ -140,6 +154,9 @@ earlier ds a bs n long IsCount s h b z c =
               fields = subst (Each (λ v. v ≤ n)) (sym t.2) (entries_le r.x r.y n t.0 (omega arith) q k.fields);
             };
       },
-      record { antecedent = satisfies_renamed f w f0 ds s h a c.antecedent; disjuncts = λ x. c.disjuncts (one_renamed_back f w f0 ds s h bs x) },
+      record {
+        antecedent = satisfies_renamed f w f0 ds s h a c.antecedent;
+        disjuncts = λ x. c.disjuncts (one_renamed_back f w f0 ds s h bs x);
+      },
       r.less,
     )

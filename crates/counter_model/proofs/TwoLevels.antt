@@ -16,10 +16,18 @@ module _ (ds : List Definition) (a : SymbolicHeap) (bs : List SymbolicHeap) (n :
   abbrev Sized : Stack → Cells → Type 0
   Sized = HasSize ds a bs n
 
-  pub first_pair : (s : Stack) (h : Cells) → Sized s h → IsCounter ds a bs s h → ((t : Stack) (g : Cells) → Sized t g → IsCounter ds a bs t g → slice_cmp nat_cmp s t ≢ Greater) → ((g : Cells) → Sized s g → IsCounter ds a bs s g → heap_cmp n h g ≢ Greater) → IsFirstCounter ds a bs n s h
-  first_pair s h z c f k = record { size = z; counter = c; first = λ t g y d. by_order t g y d (slice_cmp nat_cmp s t) refl }
+  pub first_pair : (s : Stack) (h : Cells) → Sized s h → IsCounter ds a bs s h
+      → ((t : Stack) (g : Cells) → Sized t g → IsCounter ds a bs t g → slice_cmp nat_cmp s t ≢ Greater)
+      → ((g : Cells) → Sized s g → IsCounter ds a bs s g → heap_cmp n h g ≢ Greater) → IsFirstCounter ds a bs n s h
+  first_pair s h z c f k = record {
+    size = z;
+    counter = c;
+    first = λ t g y d.
+        by_order t g y d (slice_cmp nat_cmp s t) refl;
+  }
     where
-      by_order : (t : Stack) (g : Cells) → Sized t g → IsCounter ds a bs t g → (o : Ordering) → slice_cmp nat_cmp s t ≡ o → pair_cmp n s h t g ≢ Greater
+      by_order : (t : Stack) (g : Cells) → Sized t g → IsCounter ds a bs t g → (o : Ordering)
+          → slice_cmp nat_cmp s t ≡ o → pair_cmp n s h t g ≢ Greater
       by_order t g y d Less e = rw e (λ x. cc)
       by_order t g y d Equal e =
           let same : s ≡ t = slice_cmp-IsAntisymmetric nat_cmp-IsAntisymmetric s t e in

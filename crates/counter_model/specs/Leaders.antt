@@ -7,7 +7,7 @@ use Rattle.heap_formula.specs.Symbolic.{SymbolicHeap}
 use Rattle.heap_formula.specs.Definitions.{Definition}
 use Rattle.heap_formula.specs.Values.{Stack}
 use Rattle.heap_formula.specs.Cells.{Cells}
-use Rattle.fitting_heaps.specs.Bounds.{IsWithin}
+use Rattle.counter_model.specs.Bounds.{IsWithin}
 use Rattle.counter_model.specs.declared.first_stacks.CounterModel.{CounterModel}
 use Rattle.counter_model.specs.FirstCounter.{IsCounter}
 use Rattle.counter_model.specs.Leading.{IsFirstHeap}
@@ -24,6 +24,8 @@ IsStackLed None t = ⊥
 IsStackLed (Some m) t = slice_cmp nat_cmp m.stack t ≢ Greater
 
 -- the first of the stacks that name values in ascending order and have a counter-model of bounded size
-pub record IsLeader (n long : ℕ) (ds : List Definition) (a : SymbolicHeap) (bs : List SymbolicHeap) (o : Option CounterModel) : Type 0 where
+pub record IsLeader (n long : ℕ) (ds : List Definition) (a : SymbolicHeap) (bs : List SymbolicHeap)
+    (o : Option CounterModel) : Type 0 where
   pub pair : IsPairFor n long ds a bs o
-  pub first : (t : Stack) (g : Cells) → IsStack n long t → (¬ Breaks 0 t) → IsWithin n g → IsCounter ds a bs t g → IsStackLed o t
+  pub first : (t : Stack) (g : Cells) → IsStack n long t → (¬ Breaks 0 t) → IsWithin n g → IsCounter ds a bs t g
+      → IsStackLed o t

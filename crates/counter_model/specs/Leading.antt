@@ -5,7 +5,7 @@ use Rattle.heap_formula.specs.Symbolic.{SymbolicHeap}
 use Rattle.heap_formula.specs.Definitions.{Definition}
 use Rattle.heap_formula.specs.Values.{Stack}
 use Rattle.heap_formula.specs.Cells.{Cells}
-use Rattle.fitting_heaps.specs.Bounds.{IsWithin}
+use Rattle.counter_model.specs.Bounds.{IsWithin}
 use Rattle.counter_model.specs.Sizes.{heap_cmp}
 use Rattle.counter_model.specs.FirstCounter.{IsCounter}
 
@@ -20,6 +20,7 @@ IsLed n None g = ⊥
 IsLed n (Some h) g = heap_cmp n h g ≢ Greater
 
 -- the first heap of bounded size with which the stack is a counter-model; none where there is no such heap
-pub record IsFirstHeap (n : ℕ) (ds : List Definition) (a : SymbolicHeap) (bs : List SymbolicHeap) (s : Stack) (o : Option Cells) : Type 0 where
+pub record IsFirstHeap (n : ℕ) (ds : List Definition) (a : SymbolicHeap) (bs : List SymbolicHeap) (s : Stack)
+    (o : Option Cells) : Type 0 where
   pub counter : IsHeapFor n ds a bs s o
   pub first : (g : Cells) → IsWithin n g → IsCounter ds a bs s g → IsLed n o g

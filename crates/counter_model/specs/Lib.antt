@@ -1,5 +1,10 @@
+pub mod Bounds
+pub mod Findings
+pub mod LocalValues
 pub mod Sizes
 pub mod FirstCounter
 pub mod Tightness
 pub mod Leading
 pub mod Leaders
+pub mod States
+pub mod Files

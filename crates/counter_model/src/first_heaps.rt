@@ -5,13 +5,13 @@ ghost use Rattle.heap_formula.specs.Cells.{Cells as SomeHeap};
 ghost use Rattle.heap_formula.specs.Closedness.{IsUniversalHeap};
 ghost use Rattle.heap_formula.specs.Meaning.{SatisfiesOne};
 ghost use Rattle.model_check.specs.Constructive.{IsConstructive, AreConstructive};
-ghost use Rattle.fitting_heaps.specs.Bounds.{AreAtMost, IsWithin};
+ghost use Rattle.counter_model.specs.Bounds.{AreAtMost, IsWithin};
 ghost use Rattle.counter_model.specs.FirstCounter.{IsCounter};
 ghost use Rattle.counter_model.specs.Leading.{IsHeapFor, IsLed, IsFirstHeap};
 
+use crate::heaps::fitting_heaps;
 use crate::orders::compare_heaps;
-use cyc_memory::OutOfMemory;
-use fitting_heaps::fitting_heaps;
+use cyc_basics::memory::OutOfMemory;
 use goto_lang::{Cells, Stack};
 use heap_formula::Heap;
 use model_check::satisfied;

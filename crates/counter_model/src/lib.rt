@@ -2,13 +2,15 @@
 //! disjunct.
 #![tactic(auto)]
 
+pub mod files;
 mod first_heaps;
 mod first_stacks;
+pub mod heaps;
 mod laws;
 mod orders;
 mod refuting;
 mod tight_stacks;
 
-pub use fitting_heaps::is_universal;
+pub use crate::heaps::is_universal;
 pub use laws::counter_models_refute;
 pub use refuting::{Refuted, refute};

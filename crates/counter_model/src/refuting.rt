@@ -9,8 +9,8 @@ ghost use Rattle.model_check.specs.FirstPlaces.{IsPlace, IsFirstPlace};
 ghost use Rattle.counter_model.specs.FirstCounter.{HasSize, IsCounter, IsFirstCounter};
 
 use crate::first_stacks::first_model;
-use cyc_limits::MOST_UNIVERSALS;
-use cyc_memory::OutOfMemory;
+use cyc_basics::limits::MOST_UNIVERSALS;
+use cyc_basics::memory::OutOfMemory;
 use goto_lang::{Cells, Stack};
 use heap_formula::{Disjuncts, Heap, bound_of_heap};
 use model_check::{Place, constructive_all};
@@ -38,9 +38,9 @@ fn bound_of_heaps(heaps: &[Heap]) -> u32
 
 /// The first stack and heap that satisfy the antecedent and no disjunct, with addresses from 1 to `cells`, and entries
 /// and fields from 0 to `cells`. The stack has one entry for each number up to the greatest universal. Stacks are
-/// compared as lists; then heaps, from address 1 on, a missing cell before any other, then by the number of fields, then
-/// by the fields. No search is made where a universal's number is above 7, or else where a case of the definitions or a
-/// disjunct is not constructive (`model_check`), of which the first is named. `is_universal` tests the antecedent.
+/// compared as lists; then heaps, from address 1 on, a missing cell before any other, then by the number of fields,
+/// then by the fields. No search is made where a universal's number is above 7, or else where a case of the definitions
+/// or a disjunct is not constructive (`model_check`), of which the first is named. `is_universal` tests the antecedent.
 pub fn refute(
     alloc: Global,
     defs: &Defs,

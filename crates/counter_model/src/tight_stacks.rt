@@ -1,10 +1,10 @@
 // The stacks in which each entry is at most one more than the entries before it.
 ghost use Rattle.std.specs.Prelude.{◌≡◌, ◌+◌, ◌++◌, ◌∷◌, [], ◌⊎◌, ℕ, List, IfOk, length, max};
 ghost use Rattle.heap_formula.specs.Words.{Each, OneOf, max_of};
-ghost use Rattle.list_facts.specs.Words.{IsMember};
+ghost use Rattle.cyc_basics.specs.Words.{IsMember};
 ghost use Rattle.counter_model.specs.Tightness.{Breaks, IsStack, IsStep};
 
-use cyc_memory::OutOfMemory;
+use cyc_basics::memory::OutOfMemory;
 use goto_lang::Stack;
 use std::alloc::Global;
 

@@ -1,5 +1,6 @@
 -- A list of words has one first dead word.
-use Rattle.std.proofs.Common.{◌≡◌, ℕ, ◌+◌, ◌-◌, ◌<◌, List, ◌++◌, take, drop, ap, subst, ◌∙◌, inl, inr, arith, append_assoc, take-add}
+use Rattle.std.proofs.Common.{◌≡◌, ℕ, ◌+◌, ◌-◌, ◌<◌, List, ◌++◌, take, drop, ap, subst, ◌∙◌, inl, inr, arith}
+use Rattle.std.proofs.Common.{append_assoc, take-add}
 use Rattle.std.proofs.lemmas.Bool.{cases_lt}
 use Rattle.cyc_lex.specs.Word.{Word}
 use Rattle.cyc_grammar.specs.Syntax.{Syntax}
@@ -12,7 +13,8 @@ module _ {T : Type 0} (s : Syntax T) (ws : List Word) where
     begins.0,
     take m (drop j ws) ++ begins.1,
     begins.2,
-    begins.3 ∙ ap (λ front. front ++ begins.1) (take-add j m ws) ∙ append_assoc (take j ws) (take m (drop j ws)) begins.1,
+    begins.3 ∙ ap (λ front. front ++ begins.1) (take-add j m ws)
+        ∙ append_assoc (take j ws) (take m (drop j ws)) begins.1,
   )
 
   -- a word before the first dead one is not the first dead one

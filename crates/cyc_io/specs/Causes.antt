@@ -12,5 +12,5 @@ risen n = min (n + 1) (2 ^ 64 - 1)
 -- the count never falls, stands at `Ok`, and an `Err` comes only where it rose
 pub record HasCause {T E : Type 0} (before now : ℕ) (result : Result T E) : Type 0 where
   pub later : before ≤ now
-  pub calm : OnOk result (now ≡ before)
+  pub no_faults : OnOk result (now ≡ before)
   pub failed : OnErr result (Rose before now)

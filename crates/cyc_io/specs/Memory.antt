@@ -2,7 +2,8 @@
 use Rattle.std.specs.Prelude.{◌≡◌, ℕ, ◌<◌, ◌≤◌, ◌⊎◌, List, length, Contains}
 use Rattle.cyc_io.specs.Causes.{risen}
 
--- a source: the bytes still to come, the greatest piece, the numbers of the calls that fail, the calls and faults so far
+-- a source: the bytes still to come, the greatest piece, the numbers of the calls that fail, the calls and faults so
+-- far
 pub record MemoryInput : Type 0 where
   pub left : List ℕ
   pub piece : ℕ

@@ -12,7 +12,7 @@ ghost use Rattle.std.specs.Io.KnownBytes.{ReadConsumes, WriteAppends, Consumes, 
 ghost use Rattle.cyc_io.specs.Causes.{HasCause, Rose};
 ghost use Rattle.cyc_io.specs.Bytes.{Came, CameAtMost, AppendsProperPrefix};
 
-pub use cyc_memory::OutOfMemory;
+pub use cyc_basics::memory::OutOfMemory;
 pub use memory::{MemSink, MemSource};
 pub use plain::{PlainSink, PlainSource};
 use std::alloc::{AllocError, Global};
@@ -104,7 +104,7 @@ pub fn read_all<S: Source>(alloc: Global, src: &mut S, limit: usize) -> Result<V
     ensures before_fault { IsErrOf result ReadAll.ReadFault → CameAtMost (S.left src.old) (S.left src.new) limit }
     ensures taken { CameAtMost (S.left src.old) (S.left src.new) (limit + 1) }
     // Without a failed read the count stands.
-    ensures calm { IsErrOf result ReadAll.ReadFault ⊎ (S.faults src.new ≡ S.faults src.old) }
+    ensures no_faults { IsErrOf result ReadAll.ReadFault ⊎ (S.faults src.new ≡ S.faults src.old) }
     ensures counted { S.faults src.old ≤ S.faults src.new }
 {
     let mut bytes = Vec::new(alloc);

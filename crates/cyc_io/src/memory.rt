@@ -1,5 +1,6 @@
 //! Sources and sinks in memory, of which chosen calls fail.
-ghost use Rattle.std.specs.Prelude.{◌≡◌, ◌+◌, ◌-◌, ◌<◌, ◌≤◌, ◌↔◌, [], length, min, take, Some, OnOk, OnErr, IfOk, IsErr};
+ghost use Rattle.std.specs.Prelude.{◌≡◌, ◌+◌, ◌-◌, ◌<◌, ◌≤◌, ◌↔◌, [], length, min, take, Some, OnOk, OnErr, IfOk};
+ghost use Rattle.std.specs.Prelude.{IsErr};
 ghost use Rattle.std.specs.Io.{ReadsAtMost, WritesAtMost};
 ghost use Rattle.std.specs.Io.KnownBytes.{ReadConsumes, WriteAppends};
 ghost use Rattle.cyc_io.specs.Causes.{HasCause, risen};
@@ -93,7 +94,7 @@ impl Source for MemSource {
         ensures cause { HasCause self.old.faults self.new.faults result }
         ensures fails { IsErr result ↔ InputFails self.old }
         ensures raised { OnErr result (self.new.faults ≡ risen self.old.faults) }
-        ensures calm { OnOk result (self.new.faults ≡ self.old.faults) }
+        ensures no_faults { OnOk result (self.new.faults ≡ self.old.faults) }
         ensures count { IfOk result (λ n. n ≡ min (min (length buf.old) self.old.piece) (length self.old.left)) }
         ensures calls { self.new.calls ≡ risen self.old.calls }
         ensures same { SameInput self.old self.new }
@@ -202,7 +203,7 @@ impl Sink for MemSink {
         ensures cause { HasCause self.old.faults self.new.faults result }
         ensures fails { IsErr result ↔ OutputFails self.old piece.now }
         ensures raised { OnErr result (self.new.faults ≡ risen self.old.faults) }
-        ensures calm { OnOk result (self.new.faults ≡ self.old.faults) }
+        ensures no_faults { OnOk result (self.new.faults ≡ self.old.faults) }
         ensures count { IfOk result (λ n. n
             ≡ min (min (length piece.now) self.old.piece) (self.old.room - length self.old.written)) }
         ensures calls { self.new.calls ≡ risen self.old.calls }

@@ -1,5 +1,6 @@
 //! Sources and sinks in memory, none of whose calls fail but for want of room.
-ghost use Rattle.std.specs.Prelude.{◌≡◌, ◌+◌, ◌-◌, ◌<◌, ◌≤◌, ◌++◌, ◌↔◌, [], length, min, take, drop, Some, OnOk, OnErr, IfOk, IsOk, IsErr};
+ghost use Rattle.std.specs.Prelude.{◌≡◌, ◌+◌, ◌-◌, ◌<◌, ◌≤◌, ◌++◌, ◌↔◌, [], length, min, take, drop, Some, OnOk, OnErr};
+ghost use Rattle.std.specs.Prelude.{IfOk, IsOk, IsErr};
 ghost use Rattle.std.specs.Io.{ReadsAtMost, WritesAtMost};
 ghost use Rattle.std.specs.Io.KnownBytes.{ReadConsumes, WriteAppends};
 ghost use Rattle.cyc_io.specs.Causes.{HasCause, risen};
@@ -152,7 +153,7 @@ impl Sink for PlainSink {
         ensures cause { HasCause self.old.faults self.new.faults result }
         ensures fails { IsErr result ↔ ((0 < length piece.now) × (self.old.room ≤ length self.old.written)) }
         ensures raised { OnErr result (self.new.faults ≡ risen self.old.faults) }
-        ensures calm { OnOk result (self.new.faults ≡ self.old.faults) }
+        ensures no_faults { OnOk result (self.new.faults ≡ self.old.faults) }
         ensures count { IfOk result (λ n. n
             ≡ min (min (length piece.now) self.old.piece) (self.old.room - length self.old.written)) }
         ensures same { (self.new.room ≡ self.old.room) × (self.new.piece ≡ self.old.piece) }

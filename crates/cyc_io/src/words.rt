@@ -1,5 +1,5 @@
 //! The words of the command line.
-use cyc_memory::OutOfMemory;
+use cyc_basics::memory::OutOfMemory;
 use std::env;
 use std::io::ErrorKind;
 

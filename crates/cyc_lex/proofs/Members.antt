@@ -2,7 +2,7 @@
 use Rattle.std.proofs.Common.{◌≡◌, ℕ, true, List, [], ◌∷◌, sym, subst, eqb-true, inl, inr}
 use Rattle.std.specs.Prelude.{◌==◌}
 use Rattle.std.specs.List.{list_any}
-use Rattle.list_facts.specs.Words.{Each}
+use Rattle.cyc_basics.specs.Words.{Each}
 use Rattle.cyc_lex.proofs.BoolParts.{or-parts}
 
 -- so it holds of a number that is among them

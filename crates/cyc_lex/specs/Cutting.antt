@@ -21,7 +21,8 @@ with_piece (pieces.Token kind) p bytes others = token_at kind p bytes ∷ others
 unfoldable pub cut_tokens : Place → ℕ → List ℕ → List Placed
 cut_tokens p k [] = token_at End p [] ∷ []
 cut_tokens p (suc k) (c ∷ cs) = cut_tokens (pass p c) k cs
-cut_tokens p zero (c ∷ cs) = with_piece (piece_at c cs).0 p (encode_utf8_all (c ∷ take (piece_at c cs).1 cs)) (cut_tokens (pass p c) (piece_at c cs).1 cs)
+cut_tokens p zero (c ∷ cs) = with_piece (piece_at c cs).0 p (encode_utf8_all (c ∷ take (piece_at c cs).1 cs))
+    (cut_tokens (pass p c) (piece_at c cs).1 cs)
 
 -- the tokens of a text that stands at p, where a comment goes on or none does
 abbrev pub cut_text : Place → Bool → List ℕ → List Placed

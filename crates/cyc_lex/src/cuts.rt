@@ -18,8 +18,8 @@ pub struct Cut<'a> {
     pub rest: &'a str,
 }
 
-/// Cuts the first token off a text that stands at a place: the end token where no other is left. What is bad in the text is
-/// passed over.
+/// Cuts the first token off a text that stands at a place: the end token where no other is left. What is bad in the
+/// text is passed over.
 pub fn cut_token(place: Place, text: &str) -> Cut<'_>
     requires { HasRoom place (length text.now) }
     ensures { IsCut place text.now result }
@@ -59,8 +59,8 @@ pub fn cut_token(place: Place, text: &str) -> Cut<'_>
     }
 }
 
-/// The number of the tokens of a text that stands at a place, where a comment goes on or none does, and after which nothing
-/// comes; the end token is one of them.
+/// The number of the tokens of a text that stands at a place, where a comment goes on or none does, and after which
+/// nothing comes; the end token is one of them.
 pub fn count_tokens(place: Place, comment: bool, text: &str) -> Result<usize, Stop>
     requires { HasRoom place (length text.now) }
     ensures { Counts (cut_text place comment text.now) result
@@ -84,7 +84,8 @@ pub fn count_tokens(place: Place, comment: bool, text: &str) -> Result<usize, St
     Ok(count)
 }
 
-/// The token of a text with this number, counted from 0; the text stands at a place, where a comment goes on or none does.
+/// The token of a text with this number, counted from 0; the text stands at a place, where a comment goes on or none
+/// does.
 pub fn token_at(place: Place, comment: bool, text: &str, number: usize) -> Token<'_>
     requires room { HasRoom place (length text.now) }
     requires within { number < length (cut_text place comment text.now) }

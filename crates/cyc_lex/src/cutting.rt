@@ -59,8 +59,8 @@ fn cut(alloc: Global, bytes: &[u8]) -> Result<Vec<Token<'_>>, Stop>
     }
 }
 
-/// The one list of tokens of a text, the longest first from the start on, with the end token last; or the first bad place.
-/// Names are identifiers of Unicode UAX 31 and `_`; their text borrows the bytes.
+/// The one list of tokens of a text, the longest first from the start on, with the end token last; or the first bad
+/// place. Names are identifiers of Unicode UAX 31 and `_`; their text borrows the bytes.
 pub fn tokens(alloc: Global, bytes: &[u8]) -> Result<Tokens<'_>, LexFault>
     requires { length bytes.now < 2 ^ 32 - 1 }
     // Ok has the one list of tokens; a fault is the first bad place.

@@ -1,10 +1,12 @@
 //! Cutting a text into tokens.
 
-ghost use Rattle.std.specs.Prelude.{◌≡◌, ◌+◌, ◌<◌, ◌≤◌, ◌++◌, ◌∷◌, [], length, take, drop, slice_index, MatchOption, map, ◌^◌, ◌-◌};
+ghost use Rattle.std.specs.Prelude.{◌≡◌, ◌+◌, ◌<◌, ◌≤◌, ◌++◌, ◌∷◌, [], length, take, drop, slice_index, MatchOption};
+ghost use Rattle.std.specs.Prelude.{map, ◌^◌, ◌-◌};
 ghost use Rattle.std.specs.Str.{chars, encode_utf8_all, IsUtf8};
 ghost use Rattle.std.specs.Char.{encode_utf8, len_utf8};
 ghost use Rattle.std.specs.List.{prefix_len};
-ghost use Rattle.cyc_lex.specs.Lexing.{pass_all, piece_of, piece_chars, piece_rest, HasRoom, Lexes, lex, start, len_fault};
+ghost use Rattle.cyc_lex.specs.Lexing.{pass_all, piece_of, piece_chars, piece_rest, HasRoom, Lexes, lex, start};
+ghost use Rattle.cyc_lex.specs.Lexing.{len_fault};
 ghost use Rattle.cyc_lex.specs.Characters.{goes_on};
 ghost use Rattle.cyc_lex.specs.Lexing.{comment_len};
 ghost use Rattle.cyc_lex.specs.Placed.{placed};
@@ -13,7 +15,7 @@ use crate::place::{
     Bad, Piece, Place, Run, Stop, goes_on, is_double, is_plain, is_single, is_space, starts_name,
 };
 use crate::token::{Kind, Token};
-use cyc_limits::{LONGEST_NAME, LONGEST_NUMBER};
+use cyc_basics::limits::{LONGEST_NAME, LONGEST_NUMBER};
 use std::alloc::Global;
 
 /// The first character of a text, and the text after it.
@@ -128,8 +130,8 @@ pub fn skip_comment(place: Place, comment: bool, text: &str) -> (&str, Place)
     (rest, behind)
 }
 
-/// The tokens of a text that stands at a place, where a comment goes on or none does. The text is all that is to come, or is
-/// followed by a bad byte.
+/// The tokens of a text that stands at a place, where a comment goes on or none does. The text is all that is to come,
+/// or is followed by a bad byte.
 pub fn lex_from(
     alloc: Global,
     place: Place,

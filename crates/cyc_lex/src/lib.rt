@@ -11,7 +11,7 @@ mod writer;
 
 pub use cuts::{Cut, count_tokens, cut_token, token_at};
 pub use cutting::{fault_at, tokens};
-pub use cyc_memory::OutOfMemory;
+pub use cyc_basics::memory::OutOfMemory;
 pub use fault::{IllFault, LexFault, ReadFault, What};
 pub use lexing::{check_len, first, lex_from, next, next_char, skip_comment};
 pub use place::{Bad, Piece, Place, Run, Stop, goes_on, is_plain, is_space, starts_name};

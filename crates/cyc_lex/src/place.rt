@@ -6,10 +6,11 @@ ghost use Rattle.cyc_lex.specs.Lexing.{pass};
 ghost use Rattle.cyc_lex.specs.Characters.{is_space, starts_name, goes_on, is_double, is_single, is_plain};
 
 use crate::token::Kind;
-use cyc_memory::OutOfMemory;
+use cyc_basics::memory::OutOfMemory;
 use std::alloc::AllocFailed;
 
-/// A place in a text: how many bytes stand before it, and its line and column, counted from 1, the column in characters.
+/// A place in a text: how many bytes stand before it, and its line and column, counted from 1, the column in
+/// characters.
 #[derive(Clone, Copy)]
 pub struct Place {
     pub offset: u32,

@@ -9,7 +9,8 @@ some_told None = ([], tt)
 some_told (Some xs) = (xs, refl)
 
 -- where more bytes came than an input may have, the told input is too long
-pub long_told : (told new : Option (List ℕ)) → Came told new (input_limit + 1) → (input : List ℕ) × IsTold told input × (input_limit < length input)
+pub long_told : (told new : Option (List ℕ)) → Came told new (input_limit + 1)
+    → (input : List ℕ) × IsTold told input × (input_limit < length input)
 long_told None new came = (came.0, tt, omega (arith, came.2))
 long_told (Some xs) None came = absurd came.1
 long_told (Some xs) (Some ys) came = (xs, refl, omega (arith, came.2, ap length came.1, length-append came.0 ys))

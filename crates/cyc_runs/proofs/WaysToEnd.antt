@@ -8,7 +8,8 @@ use Rattle.cyc_runs.specs.Endings.{is_answer}
 use Rattle.cyc_runs.specs.Faults.{fault_status}
 
 -- a run ends with an answer, or with a fault of the outside, or out of memory
-pub ending_kind : (s : Status) → (is_answer s ≡ true) ⊎ ((s ≡ status.ReadFault) ⊎ ((s ≡ status.WriteFault) ⊎ (s ≡ status.OutOfMemory)))
+pub ending_kind : (s : Status) → (is_answer s ≡ true) ⊎ ((s ≡ status.ReadFault)
+    ⊎ ((s ≡ status.WriteFault) ⊎ (s ≡ status.OutOfMemory)))
 ending_kind status.Success = inl refl
 ending_kind status.Refused = inl refl
 ending_kind status.Usage = inl refl
@@ -21,11 +22,13 @@ ending_kind status.WriteFault = inr (inr (inl refl))
 ending_kind status.OutOfMemory = inr (inr (inr refl))
 
 -- what follows from each answer holds, if neither a read nor a write failed, or else memory ran out
-pub ended_so : (s : Status) (reads writes wrote says : Type 0) → (is_answer s ≡ true → wrote) → (s ≡ status.ReadFault → reads) → (s ≡ status.WriteFault → writes) → ¬ reads → ¬ writes → (wrote → says) → says ⊎ (s ≡ status.OutOfMemory)
-ended_so s reads writes wrote says answered read write quiet calm follows = elim (ending_kind s) [
+pub ended_so : (s : Status) (reads writes wrote says : Type 0) → (is_answer s ≡ true → wrote)
+    → (s ≡ status.ReadFault → reads) → (s ≡ status.WriteFault → writes) → ¬ reads → ¬ writes → (wrote → says)
+    → says ⊎ (s ≡ status.OutOfMemory)
+ended_so s reads writes wrote says answered read write quiet no_faults follows = elim (ending_kind s) [
   | inl answers ↦ inl (follows (answered answers))
   | inr (inl failed) ↦ absurd (quiet (read failed))
-  | inr (inr (inl failed)) ↦ absurd (calm (write failed))
+  | inr (inr (inl failed)) ↦ absurd (no_faults (write failed))
   | inr (inr (inr memory)) ↦ inr memory
 ]
 

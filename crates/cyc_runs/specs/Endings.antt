@@ -1,7 +1,8 @@
 -- The ways in which a run ends.
 use Rattle.std.specs.Prelude.{ℕ, Bool, true, false}
 use Rattle.cyc_runs.specs.declared.endings.Status.{Status}
-use Rattle.cyc_runs.specs.declared.endings.Status.TheVariants.{Success, Refused, Usage, Unreadable, IllFormed, Limit, NotFound, ReadFault, WriteFault, OutOfMemory}
+use Rattle.cyc_runs.specs.declared.endings.Status.TheVariants.{Success, Refused, Usage, Unreadable, IllFormed, Limit}
+use Rattle.cyc_runs.specs.declared.endings.Status.TheVariants.{NotFound, ReadFault, WriteFault, OutOfMemory}
 
 -- the exit status of the program
 abbrev pub status_code : Status → ℕ

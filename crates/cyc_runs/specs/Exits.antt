@@ -1,6 +1,6 @@
 -- The number that a program ends with, as whoever called it sees it.
 use Rattle.std.specs.Prelude.{◌≡◌, ◌⊎◌, ℕ, List, Option, Result, Ok, Err, true}
-use Rattle.cyc_memory.specs.declared.OutOfMemory.{OutOfMemory}
+use Rattle.cyc_basics.specs.declared.memory.OutOfMemory.{OutOfMemory}
 use Rattle.cyc_runs.specs.declared.endings.Status.{Status}
 use Rattle.cyc_runs.specs.declared.endings.Status.TheVariants as status
 use Rattle.cyc_runs.specs.Endings.{is_answer, status_code}
@@ -11,7 +11,8 @@ abbrev pub IsExitOf : Result Status OutOfMemory → ℕ → Type 0
 IsExitOf (Ok ending) code = code ≡ status_code ending
 IsExitOf (Err none) code = code ≡ 9
 
--- a program with these words ended with this number: that of a status of which this is true, or 9 where no memory held the words
+-- a program with these words ended with this number: that of a status of which this is true, or 9 where no memory held
+-- the words
 abbrev pub EndedBy : {Words : Type 0} → Result Words OutOfMemory → (Words → Status → Type 0) → ℕ → Type 0
 EndedBy (Ok words) Is code = (ending : Status) × (code ≡ status_code ending) × Is words ending
 EndedBy (Err none) Is code = code ≡ 9

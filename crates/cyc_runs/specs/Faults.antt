@@ -1,6 +1,6 @@
 -- The answer to a fault of the input.
 use Rattle.std.specs.Prelude.{◌≢◌, ◌≡◌, ℕ, List, []}
-use Rattle.cyc_texts.specs.Texts.{lexical_text, syntax_text, ill_formed_text, limit_text}
+use Rattle.cyc_runs.specs.Texts.{lexical_text, syntax_text, ill_formed_text, limit_text}
 use Rattle.cyc_lex.specs.declared.fault.ReadFault.{ReadFault}
 use Rattle.cyc_lex.specs.declared.fault.ReadFault.TheVariants as faults
 use Rattle.cyc_runs.specs.declared.endings.Status.{Status}
@@ -24,4 +24,5 @@ fault_text faults.OutOfMemory = []
 
 -- an input with this fault is answered so; out of memory is no fault of the input
 abbrev pub IsFaultAnswer : ReadFault → Status → List ℕ → Type 0
-IsFaultAnswer fault ending text = (ending ≡ fault_status fault) × (text ≡ fault_text fault) × (fault ≢ faults.OutOfMemory)
+IsFaultAnswer fault ending text = (ending ≡ fault_status fault) × (text ≡ fault_text fault)
+    × (fault ≢ faults.OutOfMemory)

@@ -1,3 +1,5 @@
+pub mod Names
+pub mod Texts
 pub mod Endings
 pub mod Faults
 pub mod Runs

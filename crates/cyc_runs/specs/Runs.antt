@@ -2,7 +2,7 @@
 use Rattle.std.specs.Prelude.{◌≡◌, ◌+◌, ◌<◌, ◌⊎◌, ℕ, List, length, Option, Some, None}
 use Rattle.std.specs.Io.KnownBytes.{Appends, IsAtEnd}
 use Rattle.cyc_io.specs.Bytes.{AppendsProperPrefix, Came}
-use Rattle.cyc_texts.specs.Texts.{input_limit_text}
+use Rattle.cyc_runs.specs.Texts.{input_limit_text}
 use Rattle.cyc_runs.specs.declared.endings.Status.{Status}
 use Rattle.cyc_runs.specs.declared.pieces.TheConstants.{INPUT_LIMIT}
 use Rattle.cyc_runs.specs.declared.endings.Status.TheVariants as status
@@ -42,4 +42,5 @@ WroteAnswer answers told old new ending = (text : List ℕ) × AnswersTold answe
 
 -- a proper prefix of the text of an answer was written
 abbrev pub WrotePart : Answering → Option (List ℕ) → Option (List ℕ) → Option (List ℕ) → Type 0
-WrotePart answers told old new = (ending : Status) × ((text : List ℕ) × AnswersTold answers told ending text × AppendsProperPrefix old new text)
+WrotePart answers told old new = (ending : Status)
+    × ((text : List ℕ) × AnswersTold answers told ending text × AppendsProperPrefix old new text)

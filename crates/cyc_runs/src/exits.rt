@@ -3,7 +3,7 @@ ghost use Rattle.std.specs.Process.{exit_status};
 ghost use Rattle.cyc_runs.specs.Exits.{IsExitOf};
 
 use crate::endings::Status;
-use cyc_memory::OutOfMemory;
+use cyc_basics::memory::OutOfMemory;
 use std::process::ExitCode;
 
 /// The exit code of a program whose run ended so, or which found no memory for its words.

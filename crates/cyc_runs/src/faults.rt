@@ -5,9 +5,9 @@ ghost use Rattle.cyc_runs.specs.Faults.{fault_status, fault_text};
 
 use crate::answers::Answer;
 use crate::endings::Status;
+use crate::texts::{ill_formed_line, lexical_line, limit_line, syntax_line};
+use cyc_basics::memory::OutOfMemory;
 use cyc_lex::ReadFault;
-use cyc_memory::OutOfMemory;
-use cyc_texts::{ill_formed_line, lexical_line, limit_line, syntax_line};
 use std::alloc::Global;
 
 /// The answer to an input that has this fault. Out of memory has no answer.

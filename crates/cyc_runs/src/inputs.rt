@@ -4,7 +4,7 @@ ghost use Rattle.std.specs.Prelude.{◌++◌, length};
 use crate::Tool;
 use crate::answers::Answer;
 use crate::pieces::PiecewiseTool;
-use cyc_memory::OutOfMemory;
+use cyc_basics::memory::OutOfMemory;
 use std::alloc::Global;
 
 // A tool that keeps its input until it has come whole.

@@ -14,10 +14,11 @@ mod exits;
 mod faults;
 mod inputs;
 mod pieces;
+pub mod texts;
 
 pub use answers::{Answer, fixed_answer};
+pub use cyc_basics::memory::OutOfMemory;
 use cyc_io::{Sink, Source, write_all};
-pub use cyc_memory::OutOfMemory;
 pub use endings::Status;
 pub use exits::exit_code;
 pub use faults::answer_to_fault;
@@ -47,7 +48,7 @@ pub fn give<K: Sink>(answer: Answer, out: &mut K) -> Status
         → (result ≡ answer.status) × Appends (K.written out.old) (K.written out.new) answer.text.items }
     ensures part { result ≡ Status.WriteFault → Rose (K.faults out.old) (K.faults out.new)
         × AppendsProperPrefix (K.written out.old) (K.written out.new) answer.text.items }
-    ensures calm { is_answer result ≡ true → K.faults out.new ≡ K.faults out.old }
+    ensures no_faults { is_answer result ≡ true → K.faults out.new ≡ K.faults out.old }
     ensures counted { K.faults out.old ≤ K.faults out.new }
     ensures read_fault { result ≢ Status.ReadFault }
     ensures memory { result ≢ Status.OutOfMemory }
@@ -71,7 +72,7 @@ pub fn give_made<K: Sink>(made: Result<Answer, OutOfMemory>, out: &mut K) -> Sta
     ensures read_fault { result ≢ Status.ReadFault }
     ensures memory { result ≡ Status.OutOfMemory → out.new ≡ out.old }
     ensures wanting { OnOk made (result ≢ Status.OutOfMemory) }
-    ensures calm { is_answer result ≡ true → K.faults out.new ≡ K.faults out.old }
+    ensures no_faults { is_answer result ≡ true → K.faults out.new ≡ K.faults out.old }
     ensures counted { K.faults out.old ≤ K.faults out.new }
 {
     match made {
@@ -103,7 +104,7 @@ pub fn run_over<T: Tool, S: Source, K: Sink>(
     // Neither a failed read nor a failed write ends so.
     ensures memory { result ≡ Status.OutOfMemory → (out.new ≡ out.old) × (S.faults src.new ≡ S.faults src.old) }
     // After a failed read or write no answer is given.
-    ensures calm { is_answer result ≡ true
+    ensures no_faults { is_answer result ≡ true
         → (S.faults src.new ≡ S.faults src.old) × (K.faults out.new ≡ K.faults out.old) }
     ensures counted { (S.faults src.old ≤ S.faults src.new) × (K.faults out.old ≤ K.faults out.new) }
 {
@@ -137,7 +138,7 @@ pub fn run_in_pieces<T: PiecewiseTool + Drop, S: Source, K: Sink>(
     // Neither a failed read nor a failed write ends so.
     ensures memory { result ≡ Status.OutOfMemory → (out.new ≡ out.old) × (S.faults src.new ≡ S.faults src.old) }
     // After a failed read or write no answer is given.
-    ensures calm { is_answer result ≡ true
+    ensures no_faults { is_answer result ≡ true
         → (S.faults src.new ≡ S.faults src.old) × (K.faults out.new ≡ K.faults out.old) }
     ensures counted { (S.faults src.old ≤ S.faults src.new) × (K.faults out.old ≤ K.faults out.new) }
 {

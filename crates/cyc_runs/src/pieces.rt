@@ -9,8 +9,8 @@ ghost use Rattle.cyc_runs.specs.Runs.{AnswersTold, IsAnswerOf, IsReadThrough, in
 
 use crate::answers::{Answer, fixed_answer};
 use crate::endings::Status;
+use cyc_basics::memory::OutOfMemory;
 use cyc_io::{Failed, Source};
-use cyc_memory::OutOfMemory;
 use std::alloc::Global;
 
 /// Why there is no answer.
@@ -96,7 +96,7 @@ pub fn feed_piece<T: PiecewiseTool, S: Source>(
     // A failed read takes nothing, and nothing is taken after it.
     ensures kept { IsErrOf result NoAnswer.ReadFault → Keeps (S.left src.old) (S.left src.new) }
     ensures taken { CameAtMost (S.left src.old) (S.left src.new) (input_limit + 1 - count) }
-    ensures calm { IsErrOf result NoAnswer.ReadFault ⊎ (S.faults src.new ≡ S.faults src.old) }
+    ensures no_faults { IsErrOf result NoAnswer.ReadFault ⊎ (S.faults src.new ≡ S.faults src.old) }
     ensures counted { S.faults src.old ≤ S.faults src.new }
 {
     let room = (INPUT_LIMIT + 1 - count).min(buffer.len());
@@ -125,9 +125,10 @@ fn feed_all<T: PiecewiseTool, S: Source>(
     ensures fed { IfOk result
         (IsFedAll (T.answers tool.old) (T.answers tool.new) (T.fed tool.new) (S.left src.old) (S.left src.new)) }
     ensures read_fault { IsErrOf result NoAnswer.ReadFault → Rose (S.faults src.old) (S.faults src.new) }
-    ensures before_fault { IsErrOf result NoAnswer.ReadFault → CameAtMost (S.left src.old) (S.left src.new) input_limit }
+    ensures before_fault { IsErrOf result NoAnswer.ReadFault
+        → CameAtMost (S.left src.old) (S.left src.new) input_limit }
     ensures taken { CameAtMost (S.left src.old) (S.left src.new) (input_limit + 1) }
-    ensures calm { IsErrOf result NoAnswer.ReadFault ⊎ (S.faults src.new ≡ S.faults src.old) }
+    ensures no_faults { IsErrOf result NoAnswer.ReadFault ⊎ (S.faults src.new ≡ S.faults src.old) }
     ensures counted { S.faults src.old ≤ S.faults src.new }
 {
     let mut count = 0;
@@ -160,9 +161,10 @@ pub fn answer_in_pieces<T: PiecewiseTool + Drop, S: Source>(
     ensures ending { IfOk result (λ a. is_answer a.status ≡ true) }
     ensures through { OnOk result (IsReadThrough (S.left src.old) (S.left src.new)) }
     ensures read_fault { IsErrOf result NoAnswer.ReadFault → Rose (S.faults src.old) (S.faults src.new) }
-    ensures before_fault { IsErrOf result NoAnswer.ReadFault → CameAtMost (S.left src.old) (S.left src.new) input_limit }
+    ensures before_fault { IsErrOf result NoAnswer.ReadFault
+        → CameAtMost (S.left src.old) (S.left src.new) input_limit }
     ensures taken { CameAtMost (S.left src.old) (S.left src.new) (input_limit + 1) }
-    ensures calm { IsErrOf result NoAnswer.ReadFault ⊎ (S.faults src.new ≡ S.faults src.old) }
+    ensures no_faults { IsErrOf result NoAnswer.ReadFault ⊎ (S.faults src.new ≡ S.faults src.old) }
     ensures counted { S.faults src.old ≤ S.faults src.new }
 {
     let mut tool = tool;

@@ -5,20 +5,20 @@ use Rattle.heap_formula.specs.declared.proof_rules.Reason.{Reason}
 use Rattle.heap_formula.specs.Definitions.{Definition}
 use Rattle.heap_formula.specs.Judgements.{JudgementHolds}
 use Rattle.pred_defs.specs.Book.{DefinitionBook}
-use Rattle.derivation_search.specs.System.{Outcome, IsFound, IsNotFound, HasTooManyDerivations, HasTooManyStates, search_of}
+use Rattle.derivations.specs.System.{Outcome, IsFound, IsNotFound, HasTooManyDerivations, HasTooManyStates, search_of}
 use Rattle.formula_reader.specs.declared.problem.Problem.{Problem}
 use Rattle.formula_reader.specs.Reading.{AreSame}
 use Rattle.proof_file.specs.declared.file.ProofFile.{ProofFile}
 use Rattle.proof_file.specs.Reading.{IsRead}
 use Rattle.proof_file.specs.Written.{text_of_file}
-use Rattle.proof_text.proofs.Readings.{text_is_read}
+use Rattle.proof_file.proofs.TextReadings.{text_is_read}
 use Rattle.logics.specs.declared.verdict.Verdict.TheVariants.{Accepted}
-use Rattle.tableaux.specs.Tableau.{replay}
+use Rattle.derivations.specs.Tableau.{replay}
 use Rattle.search_moves.specs.Settings.{theory}
 use Rattle.search_moves.specs.Trying.{Theory}
-use Rattle.search_calculus.specs.Search.{calculus_of, search_system}
-use Rattle.found_files.specs.Files.{nodes_made}
-use Rattle.reading_facts.proofs.OneCheck.{one_some}
+use Rattle.proof_search.specs.Search.{calculus_of, search_system}
+use Rattle.proof_search.specs.Files.{nodes_made}
+use Rattle.check_answers.proofs.OneCheck.{one_some}
 use Rattle.proof_search.specs.declared.prover.Proved.{Proved}
 use Rattle.proof_search.specs.declared.prover.Proved.TheVariants.{Found, NotFound, TooManyDerivations, TooManyStates}
 use Rattle.proof_search.specs.Outcomes.{outcome_of, reasons_of, search_for, IsProofFor, IsProved}
@@ -56,10 +56,13 @@ same_theory p q same =
 -- and by one search
 same_search : (p q : Problem) → AreSame p q → search_for p ≡ search_for q
 same_search p q same =
-    ap (λ t. search_system t p.goal) (same_theory p q same) ∙ ap (λ j. search_system (theory q.defs q.program) j) same.goal
+    ap (λ t. search_system t p.goal) (same_theory p q same)
+    ∙ ap (λ j. search_system (theory q.defs q.program) j) same.goal
 
 -- a search that finds ends with success
-pub found_search : (depth : ℕ) (p q : Problem) (a : Proved) (d : List Reason) → AreSame p q → outcome_of a ≡ search_of (search_for p) derivation_limit depth → search_of (search_for q) derivation_limit depth ≡ IsFound d → proved_status a ≡ status.Success
+pub found_search : (depth : ℕ) (p q : Problem) (a : Proved) (d : List Reason) → AreSame p q
+    → outcome_of a ≡ search_of (search_for p) derivation_limit depth
+    → search_of (search_for q) derivation_limit depth ≡ IsFound d → proved_status a ≡ status.Success
 found_search depth p q a d same is found =
     by_outcome a ∙ ap outcome_status (is ∙ ap (λ s. search_of s derivation_limit depth) (same_search p q same) ∙ found)
 
@@ -69,24 +72,32 @@ found_reasons : (d e : List Reason) → IsFound d ≡ IsFound e → d ≡ e
 found_reasons d e same = cc
 
 -- the reasons of a proof make its nodes
-same_nodes : (p q : Problem) (f g : ProofFile) → AreSame p q → IsProofFor p f → IsProofFor q g → reasons_of f ≡ reasons_of g → f.nodes ≡ g.nodes
+same_nodes : (p q : Problem) (f g : ProofFile) → AreSame p q → IsProofFor p f → IsProofFor q g
+    → reasons_of f ≡ reasons_of g → f.nodes ≡ g.nodes
 same_nodes p q f g same first second reasons =
-    let with_reasons = subst (λ rs. replay (calculus_of (theory p.defs p.program)) p.goal rs ≡ Some first.tableau) reasons first.made in
-    let with_goal = subst (λ j. replay (calculus_of (theory p.defs p.program)) j (reasons_of g) ≡ Some first.tableau) same.goal with_reasons in
-    let made = subst (λ t. replay (calculus_of t) q.goal (reasons_of g) ≡ Some first.tableau) (same_theory p q same) with_goal in
-    let tableau = one_some first.tableau second.tableau (replay (calculus_of (theory q.defs q.program)) q.goal (reasons_of g)) made second.made in
+    let with_reasons = subst (λ rs. replay (calculus_of (theory p.defs p.program)) p.goal rs ≡ Some first.tableau)
+    reasons first.made in
+    let with_goal = subst (λ j. replay (calculus_of (theory p.defs p.program)) j (reasons_of g) ≡ Some first.tableau)
+    same.goal with_reasons in
+    let made = subst (λ t. replay (calculus_of t) q.goal (reasons_of g) ≡ Some first.tableau) (same_theory p q same)
+    with_goal in
+    let tableau = one_some first.tableau second.tableau
+    (replay (calculus_of (theory q.defs q.program)) q.goal (reasons_of g)) made second.made in
     first.nodes ∙ (λ i. nodes_made (same_theory p q same i) (tableau i).nodes) ∙ sym second.nodes
 
 -- so the file that is found is one
-same_file : (p q : Problem) (f g : ProofFile) → AreSame p q → IsProofFor p f → IsProofFor q g → reasons_of f ≡ reasons_of g → file_text f ≡ file_text g
+same_file : (p q : Problem) (f g : ProofFile) → AreSame p q → IsProofFor p f → IsProofFor q g
+    → reasons_of f ≡ reasons_of g → file_text f ≡ file_text g
 same_file p q f g same first second reasons =
     let version = first.version ∙ same.version ∙ sym second.version in
-    let definitions = ap (λ (book : DefinitionBook). book.list) first.definitions ∙ same.definitions ∙ sym (ap (λ (book : DefinitionBook). book.list) second.definitions) in
+    let definitions = ap (λ (book : DefinitionBook). book.list) first.definitions ∙ same.definitions
+    ∙ sym (ap (λ (book : DefinitionBook). book.list) second.definitions) in
     let program = first.program ∙ same.program ∙ sym second.program in
     let nodes = same_nodes p q f g same first second reasons in
     λ i. text_of_file (version i) (definitions i) (program i) (nodes i)
 
-one_text : (depth : ℕ) (p q : Problem) (a b : Proved) → AreSame p q → IsProved p a → IsProved q b → outcome_of a ≡ outcome_of b → proved_text depth a ≡ proved_text depth b
+one_text : (depth : ℕ) (p q : Problem) (a b : Proved) → AreSame p q → IsProved p a → IsProved q b
+    → outcome_of a ≡ outcome_of b → proved_text depth a ≡ proved_text depth b
 one_text depth p q (Found f) (Found g) same first second e = same_file p q f g same first second (found_reasons _ _ e)
 one_text depth p q (Found f) NotFound same first second e = absurd cc
 one_text depth p q (Found f) TooManyDerivations same first second e = absurd cc
@@ -105,10 +116,13 @@ one_text depth p q TooManyStates TooManyDerivations same first second e = absurd
 one_text depth p q TooManyStates TooManyStates same first second e = refl
 
 -- the searches for one problem have one answer
-pub one_search : (depth : ℕ) (p q : Problem) (a b : Proved) → AreSame p q → IsSearch depth p a → IsSearch depth q b → (proved_status a ≡ proved_status b) × (proved_text depth a ≡ proved_text depth b)
+pub one_search : (depth : ℕ) (p q : Problem) (a b : Proved) → AreSame p q → IsSearch depth p a → IsSearch depth q b
+    → (proved_status a ≡ proved_status b) × (proved_text depth a ≡ proved_text depth b)
 one_search depth p q a b same first second =
-    let outcome = first.0 ∙ ap (λ s. search_of s derivation_limit depth) (same_search p q same) ∙ sym second.0 in
-    (by_outcome a ∙ ap outcome_status outcome ∙ sym (by_outcome b), one_text depth p q a b same first.1 second.1 outcome)
+    let outcome = first.0 ∙ ap (λ s. search_of s derivation_limit depth) (same_search p q same) ∙ sym second.0 in (
+      by_outcome a ∙ ap outcome_status outcome ∙ sym (by_outcome b),
+      one_text depth p q a b same first.1 second.1 outcome,
+    )
 
 -- ---- what is found
 
@@ -121,6 +135,14 @@ goal_holds p f h =
     (subst (λ j. JudgementHolds f.defs.list f.program j) h.goal root))
 
 -- a check accepts the text of a proof
-pub proof_accepted : (p : Problem) (f : ProofFile) (text : List ℕ) → IsProofFor p f → text ≡ file_text f → length text ≤ input_limit → (line : List ℕ) × IsAnswer (Some Check) text status.Success line
-proof_accepted p f text h e short =
-    (nodes_text f.nodes, inr (short, Ok f, subst (λ bytes. IsRead bytes (Ok f)) (sym e) (text_is_read f), (Accepted, (h.correct, h.states, h.holds), refl, refl)))
+pub proof_accepted : (p : Problem) (f : ProofFile) (text : List ℕ) → IsProofFor p f → text ≡ file_text f
+    → length text ≤ input_limit → (line : List ℕ) × IsAnswer (Some Check) text status.Success line
+proof_accepted p f text h e short = (
+  nodes_text f.nodes,
+  inr (
+    short,
+    Ok f,
+    subst (λ bytes. IsRead bytes (Ok f)) (sym e) (text_is_read f),
+    (Accepted, (h.correct, h.states, h.holds), refl, refl),
+  ),
+)

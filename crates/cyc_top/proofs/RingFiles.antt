@@ -5,7 +5,7 @@ use Rattle.cyc_lex.specs.declared.fault.ReadFault.TheVariants as faults
 use Rattle.pred_defs.specs.Book.{DefinitionBook}
 use Rattle.proof_file.specs.declared.file.ProofFile.{ProofFile}
 use Rattle.proof_file.specs.Reading.{Reads}
-use Rattle.proof_text.proofs.Readings.{text_read_again}
+use Rattle.proof_file.proofs.TextReadings.{text_read_again}
 use Rattle.proof_check.specs.Verdicts.{Verdict}
 use Rattle.logics.specs.declared.verdict.Verdict.TheVariants.{Accepted}
 use Rattle.proof_check.specs.Verdicts.{IsVerdict}
@@ -19,12 +19,19 @@ use Rattle.cyc_top.specs.Answers.{file_text}
 use Rattle.cyc_top.specs.Rings.{IsRing}
 
 -- the ring's file itself
-pub whole_ring : (k : ℕ) (f : ProofFile) → f.defs ≡ record { most = 16; list = ring_definitions k } → f.program ≡ [] → f.nodes ≡ file_nodes (ring_nodes k) → IsRing k f
+pub whole_ring : (k : ℕ) (f : ProofFile) → f.defs ≡ record { most = 16; list = ring_definitions k } → f.program ≡ []
+    → f.nodes ≡ file_nodes (ring_nodes k) → IsRing k f
 whole_ring k f defs program nodes =
-    record { most = ap (λ (book : DefinitionBook). book.most) defs; definitions = ap (λ (book : DefinitionBook). book.list) defs; program = program; nodes = nodes }
+    record {
+      most = ap (λ (book : DefinitionBook). book.most) defs;
+      definitions = ap (λ (book : DefinitionBook). book.list) defs;
+      program = program;
+      nodes = nodes;
+    }
 
 -- what is read of its text
-pub read_ring_is : (k : ℕ) (f g : ProofFile) (text : List ℕ) → IsRing k f → text ≡ file_text f → Reads text (Ok g) → IsRing k g
+pub read_ring_is : (k : ℕ) (f g : ProofFile) (text : List ℕ) → IsRing k f → text ≡ file_text f → Reads text (Ok g)
+    → IsRing k g
 read_ring_is k f g text ring e reads =
     let same = text_read_again f text (Ok g) e reads in
     record {
@@ -35,7 +42,8 @@ read_ring_is k f g text ring e reads =
     }
 
 -- nothing is at fault in it
-pub read_ring_faultless : (f : ProofFile) (text : List ℕ) (fault : ReadFault) → text ≡ file_text f → Reads text (Err fault) → fault ≡ faults.OutOfMemory
+pub read_ring_faultless : (f : ProofFile) (text : List ℕ) (fault : ReadFault) → text ≡ file_text f
+    → Reads text (Err fault) → fault ≡ faults.OutOfMemory
 read_ring_faultless f text fault e reads = text_read_again f text (Err fault) e reads
 
 pub ring_accepted : (k : ℕ) (f : ProofFile) (v : Verdict) → 1 ≤ k → k ≤ 2000 → IsRing k f → IsVerdict f v → v ≡ Accepted

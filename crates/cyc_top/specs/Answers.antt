@@ -1,7 +1,7 @@
 -- The answer to a task, and what is written of it.
 use Rattle.std.specs.Prelude.{◌≡◌, ◌+◌, ◌*◌, ◌≤◌, ℕ, List, length, Option, Some, None, Result, Ok, Err}
 use Rattle.std.specs.Io.KnownBytes.{Appends}
-use Rattle.cyc_texts.specs.Texts.{states_limit_text, derivations_limit_text, not_found_text, ring_text}
+use Rattle.cyc_runs.specs.Texts.{states_limit_text, derivations_limit_text, not_found_text, ring_text}
 use Rattle.cyc_lex.specs.declared.fault.ReadFault.{ReadFault}
 use Rattle.proof_file.specs.declared.file.ProofFile.{ProofFile}
 use Rattle.cyc_runs.specs.declared.endings.Status.{Status}
@@ -9,25 +9,26 @@ use Rattle.cyc_runs.specs.declared.endings.Status.TheVariants as status
 use Rattle.cyc_runs.specs.Faults.{IsFaultAnswer}
 use Rattle.cyc_runs.specs.Runs.{Answering, AnswersTold, IsAnswerOf, IsTold, input_limit}
 use Rattle.cyc_runs.specs.Runs as runs
-use Rattle.reading_facts.specs.Alike.{AreOneCheck}
-use Rattle.derivation_search.specs.declared.TheConstants.{DERIVATION_LIMIT}
+use Rattle.check_answers.specs.Alike.{AreOneCheck}
+use Rattle.derivations.specs.declared.search.TheConstants.{DERIVATION_LIMIT}
 use Rattle.cyc_words.specs.declared.tasks.Task.{Task}
-use Rattle.cyc_words.specs.declared.tasks.Task.TheVariants.{Check, Prove, Ring, Upgrade, Sat, Model, Disprove, FirstOrderProve, FirstOrderCheck}
+use Rattle.cyc_words.specs.declared.tasks.Task.TheVariants.{Check, Prove, Ring, Upgrade, Sat, Model, Disprove}
+use Rattle.cyc_words.specs.declared.tasks.Task.TheVariants.{FirstOrderProve, FirstOrderCheck}
 use Rattle.cyc_words.specs.Words.{usage_text}
-use Rattle.sat_answers.specs.Answers.{IsAsked, IsPossible}
+use Rattle.command_answers.specs.Answers.{IsAsked, IsPossible}
 use Rattle.model_file.specs.declared.file.Model as formats
 use Rattle.model_file.specs.Reading as models
-use Rattle.model_answers.specs.Answers.{IsModelled, IsSatisfying}
-use Rattle.disprove_answers.specs.Answers.{HasNoCounter, IsDisproved, IsRefuted}
+use Rattle.command_answers.specs.ModelAnswers.{IsModelled, IsSatisfying}
+use Rattle.command_answers.specs.DisproveAnswers.{HasNoCounter, IsDisproved, IsRefuted}
 use Rattle.fo_formula.specs.declared.nodes.FoFile.{FoFile}
 use Rattle.fo_formula.specs.Validity.{SequentHolds}
-use Rattle.fo_values.specs.declared.problem.FoProblem.{FoProblem}
+use Rattle.fo_file.specs.declared.values.problem.FoProblem.{FoProblem}
 use Rattle.fo_file.specs.Reading as first_order
 use Rattle.fo_logic.specs.Verdicts as first_order_verdicts
-use Rattle.fo_answers.specs.Answers.{IsFirstOrderChecked}
-use Rattle.fo_answers.specs.Searches.{IsFirstOrderSearched}
+use Rattle.command_answers.specs.FirstOrderAnswers.{IsFirstOrderChecked}
+use Rattle.command_answers.specs.Searches.{IsFirstOrderSearched}
 use Rattle.heap_formula.specs.Judgements.{JudgementHolds}
-use Rattle.derivation_search.specs.System.{search_of}
+use Rattle.derivations.specs.System.{search_of}
 use Rattle.formula_reader.specs.declared.problem.Problem.{Problem}
 use Rattle.formula_reader.specs.Reading as problems
 use Rattle.proof_file.specs.Upgrades.{IsUpgrade}
@@ -68,18 +69,21 @@ proved_text depth answers.TooManyStates = states_limit_text
 
 -- a search within the depth for a proof of the problem comes to this answer
 abbrev pub IsSearch : ℕ → Problem → Proved → Type 0
-IsSearch depth problem proved = (outcome_of proved ≡ search_of (search_for problem) derivation_limit depth) × IsProved problem proved
+IsSearch depth problem proved = (outcome_of proved ≡ search_of (search_for problem) derivation_limit depth)
+    × IsProved problem proved
 
 -- a search that read its input so is answered so
 abbrev pub IsSearchAnswer : ℕ → Result Problem ReadFault → Status → List ℕ → Type 0
 IsSearchAnswer depth (Ok problem) ending text =
-    (proved : Proved) × IsSearch depth problem proved × (ending ≡ proved_status proved) × (text ≡ proved_text depth proved)
+    (proved : Proved) × IsSearch depth problem proved × (ending ≡ proved_status proved)
+    × (text ≡ proved_text depth proved)
 IsSearchAnswer depth (Err fault) ending text = IsFaultAnswer fault ending text
 
 -- the input is read as a problem, and answered so
 abbrev pub IsSearched : ℕ → List ℕ → Status → List ℕ → Type 0
 IsSearched depth input ending text =
-    (length input ≤ input_limit) × (read : Result Problem ReadFault) × problems.IsRead input read × IsSearchAnswer depth read ending text
+    (length input ≤ input_limit) × (read : Result Problem ReadFault) × problems.IsRead input read
+    × IsSearchAnswer depth read ending text
 
 -- ---- the answers of the upgrade
 
@@ -92,7 +96,8 @@ IsUpgradeAnswer (Err fault) ending text = IsFaultAnswer fault ending text
 -- the input is read, and answered so
 abbrev pub IsUpgraded : List ℕ → Status → List ℕ → Type 0
 IsUpgraded input ending text =
-    (length input ≤ input_limit) × (read : Result ProofFile ReadFault) × IsRead input read × IsUpgradeAnswer read ending text
+    (length input ≤ input_limit) × (read : Result ProofFile ReadFault) × IsRead input read
+    × IsUpgradeAnswer read ending text
 
 -- ---- answers to the words
 
@@ -131,20 +136,24 @@ WrotePart task = runs.WrotePart (IsAnswer task)
 
 -- some input, which is the one that was told, spells a model of which this is true
 abbrev pub ToldModelOf : (formats.Model → Type 0) → Option (List ℕ) → Type 0
-ToldModelOf Has told = (input : List ℕ) × IsTold told input × ((model : formats.Model) × models.IsRead input (Ok model) × Has model)
+ToldModelOf Has told = (input : List ℕ) × IsTold told input
+    × ((model : formats.Model) × models.IsRead input (Ok model) × Has model)
 
 -- the same of a first-order proof
 abbrev pub ToldFirstOrderOf : (FoFile → Type 0) → Option (List ℕ) → Type 0
-ToldFirstOrderOf Has told = (input : List ℕ) × IsTold told input × ((file : FoFile) × first_order.IsRead input (Ok file) × Has file)
+ToldFirstOrderOf Has told = (input : List ℕ) × IsTold told input
+    × ((file : FoFile) × first_order.IsRead input (Ok file) × Has file)
 
 -- some input, which is the one that was told, spells a first-order problem whose goal holds in every valuation
 abbrev pub ToldQuestion : Option (List ℕ) → Type 0
 ToldQuestion told =
-    (input : List ℕ) × IsTold told input × ((problem : FoProblem) × first_order.IsReadProblem input (Ok problem) × SequentHolds problem.theory problem.goal)
+    (input : List ℕ) × IsTold told input × ((problem : FoProblem) × first_order.IsReadProblem input (Ok problem)
+    × SequentHolds problem.theory problem.goal)
 
 -- some input, which is the one that was told, spells a problem of which this is true
 abbrev pub ToldOf : (Problem → Type 0) → Option (List ℕ) → Type 0
-ToldOf Has told = (input : List ℕ) × IsTold told input × ((problem : Problem) × problems.IsRead input (Ok problem) × Has problem)
+ToldOf Has told = (input : List ℕ) × IsTold told input
+    × ((problem : Problem) × problems.IsRead input (Ok problem) × Has problem)
 
 -- its goal holds
 abbrev pub ToldProvable : Option (List ℕ) → Type 0
@@ -179,7 +188,8 @@ IsRefusal _ told = ⊥
 -- a text was written that a check accepts, where it is no longer than an input may be
 abbrev pub WroteProof : Option (List ℕ) → Option (List ℕ) → Type 0
 WroteProof old new =
-    (text : List ℕ) × Appends old new text × (length text ≤ input_limit → (line : List ℕ) × IsAnswer (Some Check) text status.Success line)
+    (text : List ℕ) × Appends old new text × (length text ≤ input_limit
+    → (line : List ℕ) × IsAnswer (Some Check) text status.Success line)
 
 -- the same of a first-order proof
 abbrev pub WroteFirstOrderProof : Option (List ℕ) → Option (List ℕ) → Type 0
@@ -196,7 +206,8 @@ IsAcceptedToo input text =
 -- a text was written that is a model of its own formula, where it is no longer than an input may be
 abbrev pub WroteModel : Option (List ℕ) → Option (List ℕ) → Type 0
 WroteModel old new =
-    (text : List ℕ) × Appends old new text × (length text ≤ input_limit → (line : List ℕ) × IsAnswer (Some Model) text status.Success line)
+    (text : List ℕ) × Appends old new text × (length text ≤ input_limit
+    → (line : List ℕ) × IsAnswer (Some Model) text status.Success line)
 
 -- the entailment that was told has no counter-model of this size
 abbrev pub IsUnrefuted : ℕ → Option (List ℕ) → Type 0

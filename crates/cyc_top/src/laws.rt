@@ -2,10 +2,17 @@
 ghost use Rattle.std.specs.Prelude.{◌≡◌, ℕ, List, Option};
 ghost use Rattle.cyc_words.specs.declared.tasks.Task.{Task};
 ghost use Rattle.cyc_runs.specs.declared.endings.Status.{Status};
-ghost use Rattle.cyc_limits.specs.declared.TheConstants.{GREATEST_LOCAL, GREATEST_PROGRAM_VARIABLE, GREATEST_VARIABLE, LONGEST_NAME, LONGEST_NUMBER, MOST_ARGUMENTS, MOST_CASES, MOST_CASE_ATOMS, MOST_CELLS, MOST_CONSTRUCTORS, MOST_DISJUNCTS, MOST_LEFT, MOST_LINES, MOST_LINKS, MOST_LOCALS, MOST_NODES, MOST_PREDICATES, MOST_PURE, MOST_RIGHT, MOST_SPATIAL, MOST_TERMS, MOST_UNIVERSALS, MOST_VALUES, MOST_VARIABLES};
+ghost use Rattle.cyc_basics.specs.declared.limits.TheConstants.{GREATEST_LOCAL, GREATEST_PROGRAM_VARIABLE};
+ghost use Rattle.cyc_basics.specs.declared.limits.TheConstants.{GREATEST_VARIABLE, LONGEST_NAME, LONGEST_NUMBER};
+ghost use Rattle.cyc_basics.specs.declared.limits.TheConstants.{MOST_ARGUMENTS, MOST_CASES, MOST_CASE_ATOMS};
+ghost use Rattle.cyc_basics.specs.declared.limits.TheConstants.{MOST_CELLS, MOST_CONSTRUCTORS, MOST_DISJUNCTS};
+ghost use Rattle.cyc_basics.specs.declared.limits.TheConstants.{MOST_LEFT, MOST_LINES, MOST_LINKS, MOST_LOCALS};
+ghost use Rattle.cyc_basics.specs.declared.limits.TheConstants.{MOST_NODES, MOST_PREDICATES, MOST_PURE, MOST_RIGHT};
+ghost use Rattle.cyc_basics.specs.declared.limits.TheConstants.{MOST_SPATIAL, MOST_TERMS, MOST_UNIVERSALS, MOST_VALUES};
+ghost use Rattle.cyc_basics.specs.declared.limits.TheConstants.{MOST_VARIABLES};
 ghost use Rattle.cyc_runs.specs.Runs.{input_limit};
 ghost use Rattle.proof_check.specs.Verdicts.{state_limit};
-ghost use Rattle.sat_answers.specs.Answers.{pair_limit, size_limit};
+ghost use Rattle.command_answers.specs.Answers.{pair_limit, size_limit};
 ghost use Rattle.cyc_top.specs.Answers.{AreOneText, IsAnswer, derivation_limit};
 
 /// An input has one answer: one status and one text. Where a check refuses a path, which of those that do not progress
@@ -15,8 +22,8 @@ pub fn an_input_has_one_answer()
         → IsAnswer task input t b → (s ≡ t) × AreOneText task a b }
 {}
 
-/// The limits of the formats and of the commands in figures. The definitions cite them by name; these are the numbers that
-/// docs/FORMATS.md tells.
+/// The limits of the formats and of the commands in figures. The definitions cite them by name; these are the numbers
+/// that docs/FORMATS.md tells.
 pub fn limits_are_these()
     ensures input { input_limit ≡ 16777216 }
     ensures states { state_limit ≡ 200000 }

@@ -3,7 +3,7 @@
 
 ghost use Rattle.std.specs.Prelude.{◌≡◌, ◌+◌, ◌≤◌, ℕ, List, length, map, string_bytes, true, false, Some, Ok, ◌⊎◌};
 ghost use Rattle.heap_formula.specs.declared.proof_rules.Reason.{Reason};
-ghost use Rattle.derivation_search.specs.System.{IsFound, search_of};
+ghost use Rattle.derivations.specs.System.{IsFound, search_of};
 ghost use Rattle.formula_reader.specs.declared.problem.Problem.{Problem};
 ghost use Rattle.formula_reader.specs.Reading as problems;
 ghost use Rattle.buchi_inclusion.specs.Answers.{HasAtMost};
@@ -13,17 +13,20 @@ ghost use Rattle.proof_check.specs.Verdicts.{file_graph, state_limit, IsCorrect}
 ghost use Rattle.proof_search.specs.Outcomes.{search_for};
 ghost use Rattle.fo_formula.specs.declared.nodes.FoFile.{FoFile};
 ghost use Rattle.fo_formula.specs.declared.nodes.FoReason.{FoReason};
-ghost use Rattle.fo_values.specs.declared.problem.FoProblem.{FoProblem};
+ghost use Rattle.fo_file.specs.declared.values.problem.FoProblem.{FoProblem};
 ghost use Rattle.fo_search.specs.Outcomes as first_order_searches;
 ghost use Rattle.fo_file.specs.Reading as first_order;
 ghost use Rattle.fo_logic.specs.Verdicts as first_order_verdicts;
 ghost use Rattle.cyc_io.specs.Bytes.{CameAtMost};
 ghost use Rattle.cyc_io.specs.Causes.{Rose};
 ghost use Rattle.cyc_words.specs.Words.{IsInRange, meaning_of, reads_input};
-ghost use Rattle.cyc_words.specs.declared.tasks.Task.TheVariants.{Check, Prove, Ring, Upgrade, Disprove, FirstOrderProve, FirstOrderCheck};
+ghost use Rattle.cyc_words.specs.declared.tasks.Task.TheVariants.{Check, Prove, Ring, Upgrade, Disprove};
+ghost use Rattle.cyc_words.specs.declared.tasks.Task.TheVariants.{FirstOrderProve, FirstOrderCheck};
 ghost use Rattle.cyc_runs.specs.Endings.{is_answer};
 ghost use Rattle.cyc_runs.specs.Runs.{IsReadThrough, input_limit};
-ghost use Rattle.cyc_top.specs.Answers.{IsAnswer, IsHeadline, IsRefusal, IsUnrefuted, WroteAnswer, WroteFirstOrderProof, WroteModel, WrotePart, WroteProof, WroteUpgrade, derivation_limit};
+ghost use Rattle.cyc_top.specs.Answers.{IsAnswer, IsHeadline, IsRefusal, IsUnrefuted, WroteAnswer};
+ghost use Rattle.cyc_top.specs.Answers.{WroteFirstOrderProof, WroteModel, WrotePart, WroteProof, WroteUpgrade};
+ghost use Rattle.cyc_top.specs.Answers.{derivation_limit};
 
 mod laws;
 mod program;
@@ -32,17 +35,17 @@ mod searches;
 mod upgrades;
 
 use check_answers::check_input;
+use command_answers::disprove::Disprover;
+use command_answers::first_order::{FirstOrderChecker, FirstOrderProver};
+use command_answers::model::ModelChecker;
+use command_answers::sat::Satisfier;
 use cyc_io::{Sink, Source};
 pub use cyc_runs::Status;
 use cyc_runs::{fixed_answer, give_made, run_over};
 use cyc_words::{Task, USAGE, task_of};
-use disprove_answers::Disprover;
-use fo_answers::{FirstOrderChecker, FirstOrderProver};
 pub use laws::{an_input_has_one_answer, limits_are_these};
-use model_answers::ModelChecker;
 pub use program::run_program;
 use rings::answer_to_ring;
-use sat_answers::Satisfier;
 use searches::Prover;
 use std::alloc::Global;
 use upgrades::Upgrader;
@@ -67,7 +70,7 @@ fn run_task<S: Source, K: Sink>(
     ensures write_fault { result ≡ Status.WriteFault → Rose (K.faults out.old) (K.faults out.new)
         × WrotePart task (S.left src.old) (K.written out.old) (K.written out.new) }
     ensures memory { result ≡ Status.OutOfMemory → (out.new ≡ out.old) × (S.faults src.new ≡ S.faults src.old) }
-    ensures calm { is_answer result ≡ true
+    ensures no_faults { is_answer result ≡ true
         → (S.faults src.new ≡ S.faults src.old) × (K.faults out.new ≡ K.faults out.old) }
     ensures counted { (S.faults src.old ≤ S.faults src.new) × (K.faults out.old ≤ K.faults out.new) }
     ensures unread { reads_input task ≡ false → src.new ≡ src.old }
@@ -166,7 +169,7 @@ pub fn run<S: Source, K: Sink>(alloc: Global, words: &[String], src: &mut S, out
     // Neither a failed read nor a failed write ends so.
     ensures memory { result ≡ Status.OutOfMemory → (out.new ≡ out.old) × (S.faults src.new ≡ S.faults src.old) }
     // After a failed read or write no answer is given.
-    ensures calm { is_answer result ≡ true
+    ensures no_faults { is_answer result ≡ true
         → (S.faults src.new ≡ S.faults src.old) × (K.faults out.new ≡ K.faults out.old) }
     ensures counted { (S.faults src.old ≤ S.faults src.new) × (K.faults out.old ≤ K.faults out.new) }
     // A task that needs no input leaves the source as it was.

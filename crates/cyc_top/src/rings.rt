@@ -1,16 +1,16 @@
 // The answer to a ring.
 ghost use Rattle.std.specs.Prelude.{◌≡◌, ◌≤◌, ◌+◌, ◌*◌, IfOk};
-ghost use Rattle.cyc_texts.specs.Texts.{ring_text};
+ghost use Rattle.cyc_runs.specs.Texts.{ring_text};
 ghost use Rattle.cyc_top.specs.Rings.{IsRing};
 
 use check_answers::links_of;
+use cyc_basics::memory::OutOfMemory;
 use cyc_lex::ReadFault;
-use cyc_memory::OutOfMemory;
+use cyc_runs::texts::ring_line;
 use cyc_runs::{Answer, Status};
-use cyc_texts::ring_line;
 use proof_check::{Verdict, check};
 use proof_file::ProofFile;
-use proof_text::{read_file, write_file};
+use proof_file::texts::{read_file, write_file};
 use ring_family::ring_file;
 use std::alloc::Global;
 

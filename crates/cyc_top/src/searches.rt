@@ -3,13 +3,13 @@ ghost use Rattle.std.specs.Prelude.{◌≡◌, ◌≤◌, IfOk, true};
 ghost use Rattle.cyc_runs.specs.Endings.{is_answer};
 ghost use Rattle.cyc_top.specs.Answers.{proved_status, proved_text};
 
-use cyc_memory::OutOfMemory;
+use cyc_basics::memory::OutOfMemory;
+use cyc_runs::texts::not_found_line;
 use cyc_runs::{Answer, Status, Tool, answer_to_fault, fixed_answer};
-use cyc_texts::not_found_line;
-use derivation_search::DERIVATION_LIMIT;
+use derivations::search::DERIVATION_LIMIT;
 use formula_reader::read_problem;
+use proof_file::texts::write_file;
 use proof_search::{Proved, prove};
-use proof_text::write_file;
 use std::alloc::Global;
 
 // The proof that was found, as a file has it, or the line that says why there is none.

@@ -1,8 +1,8 @@
 // Answers to an upgrade, by its input.
 
-use cyc_memory::OutOfMemory;
+use cyc_basics::memory::OutOfMemory;
 use cyc_runs::{Answer, Status, Tool, answer_to_fault};
-use proof_text::{read_file, upgrade, write_file};
+use proof_file::texts::{read_file, upgrade, write_file};
 use std::alloc::Global;
 
 /// The command `upgrade`: a file is written as one of version 2, whether it is correct or not.

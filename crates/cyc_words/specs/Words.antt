@@ -1,16 +1,19 @@
 -- What the words of a command line ask for.
-use Rattle.std.specs.Prelude.{◌≡◌, ℕ, ◌≤◌, Bool, true, false, ◌&&◌, if◌then◌else◌, List, [], ◌∷◌, Option, Some, None, is_some, option_map, option_and_then, codes}
+use Rattle.std.specs.Prelude.{◌≡◌, ℕ, ◌≤◌, Bool, true, false, ◌&&◌, if◌then◌else◌, List, [], ◌∷◌, Option, Some, None}
+use Rattle.std.specs.Prelude.{is_some, option_map, option_and_then, codes}
 use Rattle.std.specs.Str.{bytes_eq}
 use Rattle.std.specs.Str.Parse.{digits_value, without_leading_plus}
 use Rattle.clap.specs.Words.{Kinds, Row, Text, fault_of, one_of, subcommand_of}
 use Rattle.clap.specs.ValueTests.{is_unsigned_in}
 use Rattle.cyc_words.specs.Command.{cyclist_app}
 use Rattle.cyc_words.specs.declared.tasks.Task.{Task}
-use Rattle.cyc_words.specs.declared.tasks.Task.TheVariants.{Check, Prove, Ring, Upgrade, Sat, Model, Disprove, FirstOrderProve, FirstOrderCheck}
+use Rattle.cyc_words.specs.declared.tasks.Task.TheVariants.{Check, Prove, Ring, Upgrade, Sat, Model, Disprove}
+use Rattle.cyc_words.specs.declared.tasks.Task.TheVariants.{FirstOrderProve, FirstOrderCheck}
 
 -- the number that a text stands for, where it is in the range
 abbrev pub number_in : ℕ → ℕ → Text → Option ℕ
-number_in low high text = if is_unsigned_in low high text then Some (digits_value 10 (without_leading_plus text)) else None
+number_in low high text = if is_unsigned_in low high text then Some (digits_value 10 (without_leading_plus text))
+    else None
 
 -- the number of an argument, where it is in the range
 abbrev pub argument_in : ℕ → ℕ → Text → List Row → Option ℕ
@@ -96,4 +99,5 @@ reads_input None = false
 
 -- the line that says which words have a meaning
 abbrev pub usage_text : List ℕ
-usage_text = codes "usage: cyclist check | prove [--depth N] | ring K | upgrade | sat | model | disprove [--cells N] | fo [--depth N] | fo-check\n"
+usage_text = codes
+    "usage: cyclist check | prove [--depth N] | ring K | upgrade | sat | model | disprove [--cells N] | fo [--depth N] | fo-check\n"

@@ -1,7 +1,8 @@
 // The command `cyclist`, as clap builds it.
 ghost use Rattle.std.specs.Prelude.{◌≡◌, IfOk, false};
 ghost use Rattle.clap.specs.Words.{App, rule_of, with_subcommand};
-ghost use Rattle.cyc_words.specs.Command.{IsCommand, asking_app, cells_rule, cyclist_app, depth_rule, disprove_app, fo_app, prove_app, proving_app, ring_app, size_rule};
+ghost use Rattle.cyc_words.specs.Command.{IsCommand, asking_app, cells_rule, cyclist_app, depth_rule, disprove_app};
+ghost use Rattle.cyc_words.specs.Command.{fo_app, prove_app, proving_app, ring_app, size_rule};
 
 use clap::{Arg, Command};
 use std::alloc::{AllocError, Global};

@@ -8,7 +8,7 @@ mod command;
 mod meaning;
 mod tasks;
 
-pub use cyc_memory::OutOfMemory;
+pub use cyc_basics::memory::OutOfMemory;
 use meaning::task_of_line;
 use std::alloc::Global;
 pub use tasks::{Task, USAGE};

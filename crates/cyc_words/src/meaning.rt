@@ -7,7 +7,7 @@ use crate::command::cyclist_command;
 use crate::tasks::Task;
 use clap::ArgMatches;
 use clap::error::ErrorKind;
-use cyc_memory::OutOfMemory;
+use cyc_basics::memory::OutOfMemory;
 use std::alloc::Global;
 
 // The number of an argument, whose range clap has seen to.

@@ -15,8 +15,8 @@ pub enum Task {
     Sat,
     /// Say whether the stack and the heap of the model that the input spells satisfy its formula.
     Model,
-    /// Search for a counter-model of the entailment of the problem that the input spells, with addresses and values up to
-    /// this number, 1 to 4.
+    /// Search for a counter-model of the entailment of the problem that the input spells, with addresses and values up
+    /// to this number, 1 to 4.
     Disprove(u32),
     /// Search the first-order problem that the input spells for a proof, down to this depth, 1 to 40.
     FirstOrderProve(u32),

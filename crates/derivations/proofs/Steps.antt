@@ -4,13 +4,13 @@ use Rattle.std.specs.Prelude.{ℕ}
 use Rattle.std.proofs.lemmas.List.{length-map}
 use Rattle.std.proofs.lemmas.Option.{same_Some}
 use Rattle.std.proofs.lemmas.List.Sums.{fold-append}
-use Rattle.derivation_search.specs.Stack.{front}
-use Rattle.derivation_search.proofs.Members.{front-after}
-use Rattle.tableaux.specs.Tableau.{Subgoal, Goal, Made, Tableau, Calculus, step, begin, replay}
+use Rattle.derivations.specs.Stack.{front}
+use Rattle.derivations.proofs.Members.{front-after}
+use Rattle.derivations.specs.Tableau.{Subgoal, Goal, Made, Tableau, Calculus, step, begin, replay}
 use Rattle.derivations.specs.declared.derivation.Derivation.{Derivation}
 use Rattle.derivations.specs.Derivations.{goals_in, reasons_in, tableau_in, about, IsInOrder}
-use Rattle.list_facts.proofs.Parts.{split_last}
-use Rattle.tableaux.proofs.TakenBack.{WasAt, was_at}
+use Rattle.cyc_basics.proofs.Parts.{split_last}
+use Rattle.derivations.proofs.TakenBack.{WasAt, was_at}
 
 -- the last reason's goal, and what was made before it
 pub record Before {L J R : Type 0} (calculus : L → Calculus J R) (s s' : Derivation L J R) : Type 0 where
@@ -22,9 +22,12 @@ pub record Before {L J R : Type 0} (calculus : L → Calculus J R) (s s' : Deriv
   pub made : s.made.items ≡ s'.made.items ++ record { goal = goal; reason = reason } ∷ []
   pub has : (calculus s.logic).premises s'.made.items goal reason ≡ Some premises
 
-module _ {L J R : Type 0} (calculus : L → Calculus J R) (Occurs : L → J → Type 0) (Allows : L → R → Type 0) (s s' : Derivation L J R) (order : IsInOrder calculus Occurs Allows s) (order' : IsInOrder calculus Occurs Allows s') (same : about s' ≡ about s) where
+module _ {L J R : Type 0} (calculus : L → Calculus J R) (Occurs : L → J → Type 0) (Allows : L → R → Type 0)
+    (s s' : Derivation L J R) (order : IsInOrder calculus Occurs Allows s)
+    (order' : IsInOrder calculus Occurs Allows s') (same : about s' ≡ about s) where
   replayed' : replay (calculus s.logic) s.root (reasons_in s') ≡ Some (tableau_in s')
-  replayed' = subst (λ (a : L × (ℕ × J)). replay (calculus a.0) a.1.1 (reasons_in s') ≡ Some (tableau_in s')) same order'.replayed
+  replayed' = subst (λ (a : L × (ℕ × J)). replay (calculus a.0) a.1.1 (reasons_in s') ≡ Some (tableau_in s'))
+      same order'.replayed
 
   -- a reason that was taken back left its goal the next one
   pub before : reasons_in s' ≡ front (reasons_in s) → 0 < length s.made.items → Before calculus s s'
@@ -41,8 +44,11 @@ module _ {L J R : Type 0} (calculus : L → Calculus J R) (Occurs : L → J → 
         reason = r;
         premises = was.ps;
         next = ap (λ (t : Tableau J R). t.goals) (sym is) ∙ was.goals;
-        made = ap (λ (t : Tableau J R). t.nodes) (sym was.made) ∙ ap (λ (ns : List (Made J R)). ns ++ record { goal = was.g; reason = r } ∷ []) (ap (λ (t : Tableau J R). t.nodes) is);
-        has = ap (λ (ns : List (Made J R)). (calculus s.logic).premises ns was.g r) (sym (ap (λ (t : Tableau J R). t.nodes) is)) ∙ was.has;
+        made = ap (λ (t : Tableau J R). t.nodes) (sym was.made)
+            ∙ ap (λ (ns : List (Made J R)). ns ++ record { goal = was.g; reason = r } ∷ [])
+            (ap (λ (t : Tableau J R). t.nodes) is);
+        has = ap (λ (ns : List (Made J R)). (calculus s.logic).premises ns was.g r)
+            (sym (ap (λ (t : Tableau J R). t.nodes) is)) ∙ was.has;
       }
         where
           are : reasons_in s' ≡ ds

@@ -1,11 +1,12 @@
 -- Partial derivations of a judgement.
-use Rattle.std.specs.Prelude.{ℕ, ◌≡◌, ◌+◌, ◌-◌, ◌<◌, ◌≤◌, nat_lt, if◌then◌else◌, false, true, List, [], ◌∷◌, map, reverse, length, Option, Some, None, slice_get}
+use Rattle.std.specs.Prelude.{ℕ, ◌≡◌, ◌+◌, ◌-◌, ◌<◌, ◌≤◌, nat_lt, if◌then◌else◌, false, true, List, [], ◌∷◌, map}
+use Rattle.std.specs.Prelude.{reverse, length, Option, Some, None, slice_get}
 use Rattle.trace_pairs.specs.Graph.{Node, Edge}
 use Rattle.buchi_inclusion.specs.Answers.{state_limit}
-use Rattle.derivation_search.specs.System.{System}
-use Rattle.tableaux.specs.Tableau.{Goal, Made, Tableau, Calculus, grown, linked, step, replay}
-use Rattle.tableaux.specs.Fair.{IsFair}
-use Rattle.tableaux.specs.Search.{system_of}
+use Rattle.derivations.specs.System.{System}
+use Rattle.derivations.specs.Tableau.{Goal, Made, Tableau, Calculus, grown, linked, step, replay}
+use Rattle.derivations.specs.Fair.{IsFair}
+use Rattle.derivations.specs.Search.{system_of}
 use Rattle.derivations.specs.declared.derivation.Derivation.{Derivation}
 use Rattle.derivations.specs.declared.logic.Effect.{Effect}
 use Rattle.derivations.specs.Effects.{IsEffect}
@@ -27,7 +28,8 @@ abbrev pub about : {L J R : Type 0} → Derivation L J R → L × (ℕ × J)
 about s = (s.logic, (s.limit, s.root))
 
 -- the nodes, the goals and the graph are what the reasons make of the judgement
-pub record IsInOrder {L J R : Type 0} (calculus : L → Calculus J R) (Occurs : L → J → Type 0) (Allows : L → R → Type 0) (s : Derivation L J R) : Type 0 where
+pub record IsInOrder {L J R : Type 0} (calculus : L → Calculus J R) (Occurs : L → J → Type 0) (Allows : L → R → Type 0)
+    (s : Derivation L J R) : Type 0 where
   pub fair : IsFair (calculus s.logic) (Occurs s.logic) (Allows s.logic)
   pub occurs : Occurs s.logic s.root
   pub allowed : (k : ℕ) (r : R) → slice_get (reasons_in s) k ≡ Some r → Allows s.logic r
@@ -40,14 +42,16 @@ abbrev pub search_in : {L J R : Type 0} → (L → Calculus J R) → Derivation 
 search_in calculus s = system_of (calculus s.logic) s.limit state_limit s.root
 
 -- the reason has this effect at the next goal
-pub record HasEffect {L J R : Type 0} (calculus : L → Calculus J R) (s : Derivation L J R) (r : R) (e : Effect J) : Type 0 where
+pub record HasEffect {L J R : Type 0} (calculus : L → Calculus J R) (s : Derivation L J R) (r : R) (e : Effect J)
+    : Type 0 where
   pub goal : Goal J
   pub rest : List (Goal J)
   pub next : goals_in s ≡ goal ∷ rest
   pub effect : IsEffect (calculus s.logic) s.made.items goal r (Some e)
 
 -- the reason has this effect at the next goal, and its premises fit
-pub record MayTake {L J R : Type 0} (calculus : L → Calculus J R) (s : Derivation L J R) (r : R) (e : Effect J) : Type 0 where
+pub record MayTake {L J R : Type 0} (calculus : L → Calculus J R) (s : Derivation L J R) (r : R) (e : Effect J)
+    : Type 0 where
   pub has : HasEffect calculus s r e
   pub room : length s.made.items + 1 + (length e.premises.items + length has.rest) ≤ s.limit
   pub depth : 0 < length e.premises.items → has.goal.depth < 4294967295
@@ -60,14 +64,16 @@ IsNextEffect calculus s r (Some e) = HasEffect calculus s r e
 -- the effect of a reason that may be followed within a depth
 abbrev pub IsFitting : {L J R : Type 0} → (L → Calculus J R) → Derivation L J R → ℕ → R → Option (Effect J) → Type 0
 IsFitting calculus s bound r None = (search_in calculus s).fits bound (reasons_in s) r ≡ false
-IsFitting calculus s bound r (Some e) = ((search_in calculus s).fits bound (reasons_in s) r ≡ true) × MayTake calculus s r e
+IsFitting calculus s bound r (Some e) = ((search_in calculus s).fits bound (reasons_in s) r ≡ true)
+    × MayTake calculus s r e
 
 -- the most premises that fit within a depth at a goal, beside the nodes made and the open goals, the goal among them
 abbrev pub room_at : ℕ → ℕ → ℕ → ℕ → ℕ → ℕ
 room_at limit bound made goals depth = if nat_lt depth bound then limit - (made + goals) else 0
 
 -- the trace graph with the next goal as a node, by a reason that leads back along the edge, if it does
-abbrev pub graph_with : {J R : Type 0} → Calculus J R → List (Made J R) → List Node → List (Goal J) → Option Edge → List Node
+abbrev pub graph_with : {J R : Type 0} → Calculus J R → List (Made J R) → List Node → List (Goal J) → Option Edge
+    → List Node
 graph_with c nodes graph [] back = graph
 graph_with c nodes graph (g ∷ rest) back = linked (length nodes) (grown c graph g) back
 

@@ -2,13 +2,13 @@
 ghost use Rattle.std.specs.Prelude.{◌≡◌, ◌<◌, [], length};
 
 use crate::logic::{Effect, Logic};
-use cyc_memory::OutOfMemory;
-use derivation_search::Tried;
-use std::alloc::Global;
-use tableaux::{
+use crate::search::Tried;
+use crate::tableaux::{
     GrowingTraces, MadeNode, OpenGoal, drop_goals, first_goal, has_room, is_above, push_goals,
     tried,
 };
+use cyc_basics::memory::OutOfMemory;
+use std::alloc::Global;
 use trace_pairs::{Edge, TraceGraph};
 
 /// A partial derivation of a judgement of a logic, with at most `limit` nodes. The goals stand on a stack, the next one
@@ -25,12 +25,12 @@ pub struct Derivation<L, J, R> {
 
 impl<L: Logic> Derivation<L, L::Judgement, L::Reason> {
     ghost use Rattle.std.specs.Prelude.{◌∷◌, true, IfOk, OnOk};
-    ghost use Rattle.derivation_search.specs.System.{after};
-    ghost use Rattle.derivation_search.specs.Stack.{front};
-    ghost use Rattle.derivation_search.specs.Engine.{FaresSo};
-    ghost use Rattle.tableaux.specs.Tableau.{root_goal};
-    ghost use Rattle.tableaux.specs.Fair.{IsFair};
-    ghost use Rattle.tableaux.specs.Room.{is_nil};
+    ghost use Rattle.derivations.specs.System.{after};
+    ghost use Rattle.derivations.specs.Stack.{front};
+    ghost use Rattle.derivations.specs.Engine.{FaresSo};
+    ghost use Rattle.derivations.specs.Tableau.{root_goal};
+    ghost use Rattle.derivations.specs.Fair.{IsFair};
+    ghost use Rattle.derivations.specs.Room.{is_nil};
     ghost use Rattle.derivations.specs.Derivations.{IsInOrder, MayTake, reasons_in, goals_in, about, search_in};
     ghost use Rattle.derivations.specs.Derivations.{IsNextEffect, IsFitting, next_graph, room_at};
 
@@ -113,10 +113,11 @@ impl<L: Logic> Derivation<L, L::Judgement, L::Reason> {
         Ok(Some(effect))
     }
 
-    /// The most premises that fit within a depth at the next goal, where one is open: none at that depth, and else as many
-    /// as there is room for.
+    /// The most premises that fit within a depth at the next goal, where one is open: none at that depth, and else as
+    /// many as there is room for.
     pub fn most_premises(&self, depth: u32, bound: u32) -> usize
-        ensures { result ≡ room_at self.now.limit bound (length self.now.made.items) (length self.now.goals.items) depth }
+        ensures { result ≡ room_at self.now.limit bound (length self.now.made.items) (length self.now.goals.items)
+            depth }
     {
         if depth >= bound {
             return 0;

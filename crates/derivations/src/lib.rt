@@ -3,11 +3,14 @@
 #![tactic(auto)]
 
 mod derivation;
+pub mod found;
 mod logic;
 mod moves;
 mod rules;
+pub mod search;
+pub mod tableaux;
 
-pub use cyc_memory::OutOfMemory;
+pub use cyc_basics::memory::OutOfMemory;
 pub use derivation::Derivation;
 pub use logic::{Effect, Logic, Strategy};
 pub use rules::NextRules;

@@ -1,12 +1,12 @@
 // Logics whose derivations are searched for.
 ghost use Rattle.std.specs.Prelude.{◌≡◌, ◌<◌, length, IfOk};
-ghost use Rattle.tableaux.specs.Fair.{AllOccur};
+ghost use Rattle.derivations.specs.Fair.{AllOccur};
 ghost use Rattle.derivations.specs.Effects.{IsEffect, LeavesOut};
 
-use cyc_memory::OutOfMemory;
-use derivation_search::{Cursor, Offers};
+use crate::search::{Cursor, Offers};
+use crate::tableaux::{MadeNode, OpenGoal, Rules, Subgoal};
+use cyc_basics::memory::OutOfMemory;
 use std::alloc::Global;
-use tableaux::{MadeNode, OpenGoal, Rules, Subgoal};
 use trace_pairs::Edge;
 
 /// What a reason makes of a goal: the premises that it leaves to be proved, and, of a link, the edge to where it leads.
@@ -39,7 +39,8 @@ pub trait Logic: Rules + Drop {
 
 /// A logic that tells from the nodes made and the next goal what that goal is offered.
 pub trait Strategy: Logic {
-    /// The rules that a goal is offered, told one by one. A logic that makes a list of them takes `VecDeque<Self::Reason>`.
+    /// The rules that a goal is offered, told one by one. A logic that makes a list of them takes
+    /// `VecDeque<Self::Reason>`.
     type RuleCursor: Cursor<Self::Reason>;
 
     /// The links to be tried, and the rules for the case that none of them is admitted, in order.
@@ -52,7 +53,8 @@ pub trait Strategy: Logic {
         requires occur { AllOccur (Self.occurs self.now) made.now goal.now }
         requires few { length made.now < 4294967296 }
         ensures links { IfOk result (λ o. o.links.items ≡ (Self.calculus self.now).links made.now goal.now) }
-        ensures rules { IfOk result (λ o. Self.RuleCursor.left o.rules ≡ (Self.calculus self.now).rules made.now goal.now) };
+        ensures rules { IfOk result (λ o. Self.RuleCursor.left o.rules
+            ≡ (Self.calculus self.now).rules made.now goal.now) };
 
     /// The same, where rules that leave more than `most` premises may be left out.
     fn offers_within(

@@ -2,8 +2,8 @@
 use crate::derivation::Derivation;
 use crate::logic::Strategy;
 use crate::rules::{NextRules, none_offered};
-use cyc_memory::OutOfMemory;
-use derivation_search::{Moves, Offers, Tried};
+use crate::search::{Moves, Offers, Tried};
+use cyc_basics::memory::OutOfMemory;
 use std::alloc::Global;
 
 impl<L: Strategy> Moves for Derivation<L, L::Judgement, L::Reason> {

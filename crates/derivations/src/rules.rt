@@ -2,8 +2,8 @@
 ghost use Rattle.std.specs.Prelude.{◌≡◌, []};
 ghost use Rattle.derivations.specs.Rules.{rules_in};
 
-use cyc_memory::OutOfMemory;
-use derivation_search::{Cursor, Offers};
+use crate::search::{Cursor, Offers};
+use cyc_basics::memory::OutOfMemory;
 use std::alloc::Global;
 use std::collections::VecDeque;
 

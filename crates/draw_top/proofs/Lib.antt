@@ -1,3 +1,5 @@
+mod Commands
+mod Offsets
 pub mod ReadingBack
 mod Loops
 mod Told

@@ -10,17 +10,17 @@ use Rattle.cyc_runs.specs.declared.endings.Status.TheVariants as status
 use Rattle.cyc_runs.specs.Faults.{IsFaultAnswer, fault_status, fault_text}
 use Rattle.cyc_runs.specs.Runs.{Answering, IsAnswerOf}
 use Rattle.cyc_runs.specs.Runs as runs
-use Rattle.drawn_inputs.specs.declared.fits.Misfit.{Misfit}
-use Rattle.drawn_inputs.specs.declared.fits.Misfit.TheVariants as misfits
-use Rattle.drawn_inputs.specs.Fits.{IsMisfit}
-use Rattle.drawn_inputs.specs.Parts.{parts_in}
+use Rattle.draw_top.specs.declared.inputs.fits.Misfit.{Misfit}
+use Rattle.draw_top.specs.declared.inputs.fits.Misfit.TheVariants as misfits
+use Rattle.draw_top.specs.Fits.{IsMisfit}
+use Rattle.draw_top.specs.Parts.{parts_in}
 use Rattle.formula_reader.specs.declared.problem.Problem.{Problem}
 use Rattle.formula_reader.specs.Reading as problems
-use Rattle.name_numbers.specs.Numbering.{universals}
-use Rattle.named_pictures.specs.Naming.{Called}
-use Rattle.named_pictures.specs.Pictures.{named_boxes}
-use Rattle.named_pictures.specs.Titles.{lines_in, statements_in, title}
-use Rattle.picture_folds.specs.Folding.{folded_trees}
+use Rattle.problem_syntax.specs.Numbering.{universals}
+use Rattle.proof_picture.specs.Naming.{Called}
+use Rattle.proof_picture.specs.NamedPictures.{named_boxes}
+use Rattle.proof_picture.specs.Titles.{lines_in, statements_in, title}
+use Rattle.proof_picture.specs.Folding.{folded_trees}
 use Rattle.problem_syntax.specs.Trees as named
 use Rattle.proof_file.specs.declared.file.ProofFile.{ProofFile}
 use Rattle.proof_file.specs.Reading.{IsRead}
@@ -45,7 +45,8 @@ drawing_in Folded boxes is_large = folded_drawing (folded_trees boxes) is_large
 -- the text of the picture of a file, with what its verdict names in red
 abbrev pub IsTextOf : View → ProofFile → List ℕ → Type 0
 IsTextOf view f text =
-    (verdict : Verdict) × IsVerdict f verdict × (text ≡ graph_text (drawing_in view (boxes_of f verdict) (is_large verdict)))
+    (verdict : Verdict) × IsVerdict f verdict × (text ≡ graph_text
+    (drawing_in view (boxes_of f verdict) (is_large verdict)))
 
 -- a file is drawn; a fault of the input is told as the check tells it
 abbrev pub IsReadAnswer : View → Result ProofFile ReadFault → Status → List ℕ → Type 0
@@ -54,16 +55,19 @@ IsReadAnswer view (Err fault) ending text = IsFaultAnswer fault ending text
 
 -- an input that is a proof alone is read, and answered so
 abbrev pub IsAloneAnswer : View → List ℕ → Status → List ℕ → Type 0
-IsAloneAnswer view input ending text = (read : Result ProofFile ReadFault) × IsRead input read × IsReadAnswer view read ending text
+IsAloneAnswer view input ending text = (read : Result ProofFile ReadFault) × IsRead input read
+    × IsReadAnswer view read ending text
 
 -- ---- a proof, and behind it the problem that was proved
 
 -- the text of the picture of a file in these names, with a title, and with what its verdict names in red
 abbrev pub IsTitledText : View → ProofFile → Called → List LabelPart → List ℕ → Type 0
 IsTitledText view f called parts text =
-    (verdict : Verdict) × IsVerdict f verdict × (text ≡ graph_text (titled parts (is_large verdict) (drawing_in view (named_boxes called f verdict) (is_large verdict))))
+    (verdict : Verdict) × IsVerdict f verdict × (text ≡ graph_text
+    (titled parts (is_large verdict) (drawing_in view (named_boxes called f verdict) (is_large verdict))))
 
--- the names of the variables of a problem's goal by their numbers, and the lines of its program, one of these statements each
+-- the names of the variables of a problem's goal by their numbers, and the lines of its program, one of these
+-- statements each
 abbrev pub called_in : named.Problem → List (List Word) → Called
 called_in tree statements = record { names = universals tree; lines = lines_in statements }
 
@@ -75,7 +79,8 @@ IsTextIn view f tree words text =
 -- the same in the words of the problem that these bytes spell
 abbrev pub IsNamedTextOf : View → ProofFile → List ℕ → List ℕ → Type 0
 IsNamedTextOf view f problem text =
-    (tokens : List Placed) × (tree : named.Problem) × (tokens_of problem ≡ Ok tokens) × problems.SpellsTree tokens tree × IsTextIn view f tree (map word_of tokens) text
+    (tokens : List Placed) × (tree : named.Problem) × (tokens_of problem ≡ Ok tokens) × problems.SpellsTree tokens tree
+    × IsTextIn view f tree (map word_of tokens) text
 
 -- what is said of a problem that is none of the proof
 abbrev pub misfit_text : Misfit → List ℕ
@@ -94,13 +99,15 @@ IsProblemFault fault ending text =
     (ending ≡ fault_status fault) × (text ≡ codes "problem " ++ fault_text fault) × (fault ≢ faults.OutOfMemory)
 
 abbrev pub IsReadProblemAnswer : View → ProofFile → List ℕ → Result Problem ReadFault → Status → List ℕ → Type 0
-IsReadProblemAnswer view f problem (Ok p) ending text = (misfit : Option Misfit) × IsMisfit f p misfit × IsFitAnswer view f problem misfit ending text
+IsReadProblemAnswer view f problem (Ok p) ending text = (misfit : Option Misfit) × IsMisfit f p misfit
+    × IsFitAnswer view f problem misfit ending text
 IsReadProblemAnswer view f problem (Err fault) ending text = IsProblemFault fault ending text
 
 -- the problem behind a file is read, and answered so
 abbrev pub IsProblemAnswer : View → ProofFile → List ℕ → Status → List ℕ → Type 0
 IsProblemAnswer view f problem ending text =
-    (read : Result Problem ReadFault) × problems.IsRead problem read × IsReadProblemAnswer view f problem read ending text
+    (read : Result Problem ReadFault) × problems.IsRead problem read
+    × IsReadProblemAnswer view f problem read ending text
 
 abbrev pub IsReadWithAnswer : View → List ℕ → Result ProofFile ReadFault → Status → List ℕ → Type 0
 IsReadWithAnswer view problem (Ok f) ending text = IsProblemAnswer view f problem ending text

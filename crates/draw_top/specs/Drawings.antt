@@ -1,10 +1,12 @@
 -- A picture as a drawing in DOT.
-use Rattle.std.specs.Prelude.{ℕ, suc, Bool, true, false, List, [], ◌∷◌, ◌++◌, map, codes, decimal, Option, Some, None, is_some}
+use Rattle.std.specs.Prelude.{ℕ, suc, Bool, true, false, List, [], ◌∷◌, ◌++◌, map, codes, decimal, Option, Some, None}
+use Rattle.std.specs.Prelude.{is_some}
 use Rattle.heap_formula.specs.declared.judgements.Pair.{Pair}
 use Rattle.heap_formula.specs.declared.proof_rules.RuleFault.{RuleFault}
-use Rattle.cyc_texts.specs.Names.{fault_name_of, fault_number_of}
-use Rattle.cyc_texts.specs.Texts.{number_text}
-use Rattle.draw_top.specs.Graphs.{Look, Plain, Bold, LabelRun, Text, Break, Quoted, Label as LabelSetting, Set, Node, Edge, Drawing}
+use Rattle.cyc_runs.specs.Names.{fault_name_of, fault_number_of}
+use Rattle.cyc_runs.specs.Texts.{number_text}
+use Rattle.draw_top.specs.Graphs.{Look, Plain, Bold, LabelRun, Text, Break, Quoted, Label as LabelSetting, Set, Node}
+use Rattle.draw_top.specs.Graphs.{Edge, Drawing}
 use Rattle.proof_picture.specs.Pieces.{LabelPart, Words, Space, Line}
 use Rattle.proof_picture.specs.Arrows.{Drawn}
 use Rattle.proof_picture.specs.Pictures.{Box}
@@ -32,7 +34,8 @@ part_run Line = Break
 
 -- what the check says of a node with a fault, without its line feed
 abbrev pub fault_line : ℕ → RuleFault → List ℕ
-fault_line v fault = codes "refused node " ++ decimal v ++ codes " " ++ fault_name_of fault ++ number_text (fault_number_of fault)
+fault_line v fault = codes "refused node " ++ decimal v ++ codes " " ++ fault_name_of fault
+    ++ number_text (fault_number_of fault)
 
 -- a line for a fault
 abbrev pub fault_runs : ℕ → Option RuleFault → List LabelRun
@@ -46,7 +49,11 @@ label_runs v parts fault =
 
 abbrev pub box_node : ℕ → List LabelPart → Option RuleFault → Node
 box_node v parts fault =
-    record { number = v; sets = record { name = codes "label"; value = LabelSetting (label_runs v parts fault) } ∷ refused_sets (is_some fault) }
+    record {
+      number = v;
+      sets = record { name = codes "label"; value = LabelSetting (label_runs v parts fault) }
+          ∷ refused_sets (is_some fault);
+    }
 
 -- the nodes of the boxes from v on
 abbrev pub box_nodes : ℕ → List Box → List Node
@@ -113,7 +120,8 @@ whole_sets is_large =
 
 abbrev pub node_defaults : List Set
 node_defaults =
-    set_to (codes "shape") (codes "box") ∷ set_to (codes "fontname") (codes "monospace") ∷ set_to (codes "fontsize") (codes "11") ∷ []
+    set_to (codes "shape") (codes "box") ∷ set_to (codes "fontname") (codes "monospace")
+    ∷ set_to (codes "fontsize") (codes "11") ∷ []
 
 abbrev pub edge_defaults : List Set
 edge_defaults = set_to (codes "fontname") (codes "monospace") ∷ set_to (codes "fontsize") (codes "10") ∷ []
@@ -121,4 +129,11 @@ edge_defaults = set_to (codes "fontname") (codes "monospace") ∷ set_to (codes 
 -- the drawing of these boxes
 abbrev pub drawing : List Box → Bool → Drawing
 drawing boxes is_large =
-    record { whole = whole_sets is_large; all_nodes = node_defaults; all_edges = edge_defaults; nodes = box_nodes 0 boxes; clusters = []; edges = box_edges 0 boxes }
+    record {
+      whole = whole_sets is_large;
+      all_nodes = node_defaults;
+      all_edges = edge_defaults;
+      nodes = box_nodes 0 boxes;
+      clusters = [];
+      edges = box_edges 0 boxes;
+    }

@@ -1,11 +1,13 @@
 -- A folded picture as a drawing in DOT.
-use Rattle.std.specs.Prelude.{ℕ, Bool, true, false, nat_eq, List, [], ◌∷◌, ◌++◌, map, codes, decimal, Option, Some, None, is_some, if◌then◌else◌}
+use Rattle.std.specs.Prelude.{ℕ, Bool, true, false, nat_eq, List, [], ◌∷◌, ◌++◌, map, codes, decimal, Option, Some}
+use Rattle.std.specs.Prelude.{None, is_some, if◌then◌else◌}
 use Rattle.heap_formula.specs.declared.proof_rules.RuleFault.{RuleFault}
-use Rattle.picture_folds.specs.Shown.{Shown, ShownTree}
+use Rattle.proof_picture.specs.Shown.{Shown, ShownTree}
 use Rattle.proof_picture.specs.Pieces.{LabelPart}
 use Rattle.proof_picture.specs.Arrows.{Drawn}
 use Rattle.draw_top.specs.Graphs.{Bold, LabelRun, Text, Break, Label, Set, Node, Cluster, Edge, Drawing}
-use Rattle.draw_top.specs.Drawings.{edge_defaults, fault_runs, link_sets, node_defaults, pairs_sets, part_run, refused_sets, set_to, whole_sets}
+use Rattle.draw_top.specs.Drawings.{edge_defaults, fault_runs, link_sets, node_defaults, pairs_sets, part_run}
+use Rattle.draw_top.specs.Drawings.{refused_sets, set_to, whole_sets}
 
 -- what is said of a box beside the words of the proof is grey
 abbrev pub grey : List ℕ → LabelRun
@@ -31,7 +33,11 @@ abbrev pub label_set : List LabelRun → Set
 label_set runs = record { name = codes "label"; value = Label runs }
 
 abbrev pub shown_node : Shown → Node
-shown_node s = record { number = s.first; sets = label_set (shown_runs s.first s.last s.count s.label s.fault) ∷ refused_sets (is_some s.fault) }
+shown_node s = record {
+  number = s.first;
+  sets = label_set (shown_runs s.first s.last s.count s.label s.fault)
+      ∷ refused_sets (is_some s.fault);
+}
 
 abbrev pub shown_nodes : List Shown → List Node
 shown_nodes boxes = map shown_node boxes
@@ -43,7 +49,12 @@ companion_sets false is_link = link_sets is_link
 
 abbrev pub shown_edge : ℕ → Bool → Drawn → Edge
 shown_edge v uses a =
-    record { from = v; to = a.target; sets = pairs_sets a.pairs ++ companion_sets uses a.is_link ++ refused_sets a.is_refused }
+    record {
+      from = v;
+      to = a.target;
+      sets = pairs_sets a.pairs ++ companion_sets uses a.is_link
+          ++ refused_sets a.is_refused;
+    }
 
 abbrev pub edges_at : ℕ → Bool → List Drawn → List Edge
 edges_at v uses [] = []
@@ -64,7 +75,8 @@ abbrev pub lemma_runs : ℕ → List LabelPart → List LabelRun
 lemma_runs root says = grey (codes "lemma " ++ decimal root) ∷ Break ∷ map part_run says
 
 abbrev pub frame_sets : List Set
-frame_sets = set_to (codes "labeljust") (codes "l") ∷ set_to (codes "style") (codes "dashed") ∷ set_to (codes "fontname") (codes "monospace") ∷ set_to (codes "fontsize") (codes "11") ∷ []
+frame_sets = set_to (codes "labeljust") (codes "l") ∷ set_to (codes "style") (codes "dashed")
+    ∷ set_to (codes "fontname") (codes "monospace") ∷ set_to (codes "fontsize") (codes "11") ∷ []
 
 abbrev pub lemma_cluster : List LabelPart → List Shown → Cluster
 lemma_cluster says boxes =
@@ -97,4 +109,11 @@ trees_edges (t ∷ ts) = shown_edges t.boxes ++ trees_edges ts
 
 abbrev pub folded_drawing : List ShownTree → Bool → Drawing
 folded_drawing trees is_large =
-    record { whole = whole_sets is_large; all_nodes = node_defaults; all_edges = edge_defaults; nodes = trees_nodes trees; clusters = trees_clusters trees; edges = trees_edges trees }
+    record {
+      whole = whole_sets is_large;
+      all_nodes = node_defaults;
+      all_edges = edge_defaults;
+      nodes = trees_nodes trees;
+      clusters = trees_clusters trees;
+      edges = trees_edges trees;
+    }

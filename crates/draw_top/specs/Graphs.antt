@@ -79,4 +79,11 @@ abbrev pub edge_of : Arrow → Edge
 edge_of a = record { from = a.from; to = a.to; sets = map set_of a.attributes.items }
 
 abbrev pub drawing_of : Graph → Drawing
-drawing_of g = record { whole = map set_of g.whole.items; all_nodes = map set_of g.all_nodes.items; all_edges = map set_of g.all_edges.items; nodes = map node_of g.vertices.items; clusters = map cluster_of g.clusters.items; edges = map edge_of g.arrows.items }
+drawing_of g = record {
+  whole = map set_of g.whole.items;
+  all_nodes = map set_of g.all_nodes.items;
+  all_edges = map set_of g.all_edges.items;
+  nodes = map node_of g.vertices.items;
+  clusters = map cluster_of g.clusters.items;
+  edges = map edge_of g.arrows.items;
+}

@@ -1,3 +1,5 @@
+pub mod Parts
+pub mod Fits
 pub mod Graphs
 pub mod Quoting
 pub mod Reading

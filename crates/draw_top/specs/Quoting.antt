@@ -15,7 +15,8 @@ quoted bs = codes "\"" ++ escaped bs ++ codes "\""
 -- in a label, which is like HTML, the signs of tags and entities stand as entities
 abbrev pub mark_up : ℕ → List ℕ
 mark_up b =
-    if nat_eq b 38 then codes "&amp;" else (if nat_eq b 60 then codes "&lt;" else (if nat_eq b 62 then codes "&gt;" else b ∷ []))
+    if nat_eq b 38 then codes "&amp;" else (if nat_eq b 60 then codes "&lt;" else
+    (if nat_eq b 62 then codes "&gt;" else b ∷ []))
 
 abbrev pub marked_up : List ℕ → List ℕ
 marked_up [] = []

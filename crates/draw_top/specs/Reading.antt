@@ -11,7 +11,8 @@ with_front b (Some r) = Some (b ∷ r.0, r.1)
 abbrev pub read_string : Bool → List ℕ → Option (List ℕ × List ℕ)
 read_string escapes [] = None
 read_string true (b ∷ bs) = with_front b (read_string false bs)
-read_string false (b ∷ bs) = if nat_eq b 34 then Some ([], bs) else (if nat_eq b 92 then read_string true bs else with_front b (read_string false bs))
+read_string false (b ∷ bs) = if nat_eq b 34 then Some ([], bs) else
+    (if nat_eq b 92 then read_string true bs else with_front b (read_string false bs))
 
 -- the string that stands quoted at the front, and what stands after it
 abbrev pub read_quoted : List ℕ → Option (List ℕ × List ℕ)

@@ -1,6 +1,7 @@
 -- The text of a graph, a statement a line.
 use Rattle.std.specs.Prelude.{ℕ, List, [], ◌∷◌, ◌++◌, codes, decimal}
-use Rattle.draw_top.specs.Graphs.{LabelRun, Text, Break, Plain, Bold, Setting, Quoted, Label, Set, Node, Cluster, Edge, Drawing}
+use Rattle.draw_top.specs.Graphs.{LabelRun, Text, Break, Plain, Bold, Setting, Quoted, Label, Set, Node, Cluster, Edge}
+use Rattle.draw_top.specs.Graphs.{Drawing}
 use Rattle.draw_top.specs.Quoting.{quoted, marked_up}
 
 -- the tags after which a text is bold and of a colour
@@ -60,7 +61,8 @@ edges_text [] = []
 edges_text (edge ∷ edges) = edge_text edge ++ edges_text edges
 
 abbrev pub heading_text : Drawing → List ℕ
-heading_text g = codes "digraph {\ngraph" ++ bracketed g.whole ++ (codes "node" ++ bracketed g.all_nodes ++ (codes "edge" ++ bracketed g.all_edges))
+heading_text g = codes "digraph {\ngraph" ++ bracketed g.whole
+    ++ (codes "node" ++ bracketed g.all_nodes ++ (codes "edge" ++ bracketed g.all_edges))
 
 abbrev pub graph_text : Drawing → List ℕ
 graph_text g = heading_text g ++ nodes_text g.nodes ++ (clusters_text g.clusters ++ (edges_text g.edges ++ codes "}\n"))

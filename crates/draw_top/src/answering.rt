@@ -1,26 +1,27 @@
 //! The drawing of an input.
 ghost use Rattle.std.specs.Prelude.{◌≡◌, ◌<◌, ◌-◌, ◌^◌, length, map, IfOk, true};
 ghost use Rattle.cyc_runs.specs.Endings.{is_answer};
-ghost use Rattle.draw_top.specs.Answers.{IsAloneAnswer, IsFitAnswer, IsProblemAnswer, IsProblemFault, IsTextOf, IsWithAnswer, drawing_in};
+ghost use Rattle.draw_top.specs.Answers.{IsAloneAnswer, IsFitAnswer, IsProblemAnswer, IsProblemFault, IsTextOf};
+ghost use Rattle.draw_top.specs.Answers.{IsWithAnswer, drawing_in};
 ghost use Rattle.draw_top.specs.Graphs.{drawing_of};
 ghost use Rattle.proof_picture.specs.Pictures.{box_of};
 
 use crate::drawing::graph_of;
 use crate::folds::folded_graph;
 use crate::graph::Graph;
+use crate::inputs::{Misfit, misfit_of, parts_of};
 use crate::named::named_text;
 use crate::words::View;
 use crate::writing::write_graph;
+use cyc_basics::memory::OutOfMemory;
 use cyc_lex::ReadFault;
-use cyc_memory::OutOfMemory;
 use cyc_runs::{Answer, Status, Tool, answer_to_fault, fixed_answer};
-use drawn_inputs::{Misfit, misfit_of, parts_of};
 use formula_reader::read_problem;
-use picture_folds::fold_picture;
 use proof_check::check;
 use proof_file::ProofFile;
+use proof_file::texts::read_file;
+use proof_picture::folds::fold_picture;
 use proof_picture::{Picture, picture_of};
-use proof_text::read_file;
 use std::alloc::Global;
 
 /// The graph of a picture in a view.

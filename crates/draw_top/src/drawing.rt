@@ -8,7 +8,7 @@ use crate::edges::add_edges;
 use crate::graph::{Attribute, Graph};
 use crate::nodes::vertex;
 use crate::sets::set;
-use cyc_memory::OutOfMemory;
+use cyc_basics::memory::OutOfMemory;
 use proof_picture::Picture;
 use std::alloc::Global;
 

@@ -2,11 +2,12 @@
 ghost use Rattle.std.specs.Prelude.{◌≡◌, ◌++◌, [], map, IfOk, OnOk};
 ghost use Rattle.draw_top.specs.Graphs.{edge_of, look_of, run_of, set_of};
 ghost use Rattle.proof_picture.specs.Arrows.{drawn_of};
-ghost use Rattle.draw_top.specs.Drawings.{arrow_edges, arrow_sets, link_sets, pair_look, pair_text, pairs_runs, pairs_sets};
+ghost use Rattle.draw_top.specs.Drawings.{arrow_edges, arrow_sets, link_sets, pair_look, pair_text, pairs_runs};
+ghost use Rattle.draw_top.specs.Drawings.{pairs_sets};
 
 use crate::graph::{Arrow as Edge, Attribute, Run, Style, Value};
 use crate::sets::{add_red, number, plain, set};
-use cyc_memory::OutOfMemory;
+use cyc_basics::memory::OutOfMemory;
 use heap_formula::Pair;
 use proof_picture::Arrow;
 use std::alloc::Global;

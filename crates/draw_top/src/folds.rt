@@ -1,8 +1,11 @@
 //! A folded picture as a graph of DOT.
 ghost use Rattle.std.specs.Prelude.{◌≡◌, ◌++◌, ◌∷◌, map, IfOk, OnOk};
 ghost use Rattle.draw_top.specs.Graphs.{cluster_of, drawing_of, edge_of, node_of, run_of, set_of};
-ghost use Rattle.draw_top.specs.Folds.{closed_runs, companion_sets, edges_at, folded_drawing, frame_sets, frames, free_nodes, grey as grey_run, label_set, last_runs, lemma_cluster, lemma_runs, range_text, root_of, shown_edge as edge_at, shown_edges, shown_node, shown_nodes, shown_runs};
-ghost use Rattle.picture_folds.specs.Shown.{shown_of, tree_of};
+ghost use Rattle.draw_top.specs.Folds.{closed_runs, companion_sets, edges_at, folded_drawing, frame_sets, frames};
+ghost use Rattle.draw_top.specs.Folds.{free_nodes, grey as grey_run, label_set, last_runs, lemma_cluster, lemma_runs};
+ghost use Rattle.draw_top.specs.Folds.{range_text, root_of, shown_edge as edge_at, shown_edges, shown_node};
+ghost use Rattle.draw_top.specs.Folds.{shown_nodes, shown_runs};
+ghost use Rattle.proof_picture.specs.Shown.{shown_of, tree_of};
 ghost use Rattle.proof_picture.specs.Arrows.{drawn_of};
 ghost use Rattle.proof_picture.specs.Pieces.{pieces_of};
 
@@ -11,9 +14,9 @@ use crate::edges::{add_link, label_of as pairs_label};
 use crate::graph::{Arrow, Attribute, Cluster, Graph, Run, Style, Value, Vertex};
 use crate::nodes::{add_fault, add_pieces};
 use crate::sets::{add_red, number, set};
-use cyc_memory::OutOfMemory;
+use cyc_basics::memory::OutOfMemory;
 use heap_formula::RuleFault;
-use picture_folds::{FoldedPicture, ShownBox, Tree};
+use proof_picture::folds::{FoldedPicture, ShownBox, Tree};
 use proof_picture::{Arrow as Drawn, Label};
 use std::alloc::Global;
 

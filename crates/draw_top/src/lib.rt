@@ -1,5 +1,5 @@
-//! The top call of `draw`: words and a source of bytes in, a drawing and a status out. A drawing is a graph in Graphviz's DOT
-//! language (Gansner and North 2000): a small part of it, as data and as text.
+//! The top call of `draw`: words and a source of bytes in, a drawing and a status out. A drawing is a graph in
+//! Graphviz's DOT language (Gansner and North 2000): a small part of it, as data and as text.
 #![tactic(auto)]
 
 ghost use Rattle.std.specs.Prelude.{◌≡◌, ◌+◌, ◌≤◌, IsSome, map, string_bytes, true};
@@ -16,6 +16,7 @@ mod edges;
 mod escapes;
 mod folds;
 mod graph;
+pub mod inputs;
 mod laws;
 mod named;
 mod nodes;
@@ -38,9 +39,9 @@ pub use words::View;
 use words::view_of;
 pub use writing::write_graph;
 
-/// Draws the proof that the source holds, or says why it cannot be read: without words beyond the program's name each node
-/// in a box of its own, with the word `--fold` chains, closed subtrees and lemmas as one; any other words give the usage.
-/// The whole text is made before its first byte is written.
+/// Draws the proof that the source holds, or says why it cannot be read: without words beyond the program's name each
+/// node in a box of its own, with the word `--fold` chains, closed subtrees and lemmas as one; any other words give the
+/// usage. The whole text is made before its first byte is written.
 pub fn run<S: Source, K: Sink>(alloc: Global, words: &[String], src: &mut S, out: &mut K) -> Status
     // The text of the answer to the words and to the bytes that the source told was written, whole.
     ensures answered { is_answer result ≡ true
@@ -56,7 +57,7 @@ pub fn run<S: Source, K: Sink>(alloc: Global, words: &[String], src: &mut S, out
     // Neither a failed read nor a failed write ends so.
     ensures memory { result ≡ Status.OutOfMemory → (out.new ≡ out.old) × (S.faults src.new ≡ S.faults src.old) }
     // After a failed read or write no answer is given.
-    ensures calm { is_answer result ≡ true
+    ensures no_faults { is_answer result ≡ true
         → (S.faults src.new ≡ S.faults src.old) × (K.faults out.new ≡ K.faults out.old) }
     ensures counted { (S.faults src.old ≤ S.faults src.new) × (K.faults out.old ≤ K.faults out.new) }
 {

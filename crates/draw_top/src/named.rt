@@ -2,7 +2,7 @@
 ghost use Rattle.std.specs.Prelude.{◌<◌, ◌-◌, ◌^◌, length, map, IfOk};
 ghost use Rattle.cyc_lex.specs.Word.{word};
 ghost use Rattle.draw_top.specs.Answers.{IsNamedTextOf, IsTextIn, IsTitledText};
-ghost use Rattle.named_pictures.specs.Naming.{naming_of};
+ghost use Rattle.proof_picture.specs.Naming.{naming_of};
 ghost use Rattle.problem_syntax.specs.Trees.{problem_of};
 ghost use Rattle.proof_picture.specs.Pieces.{pieces_of};
 
@@ -10,14 +10,14 @@ use crate::answering::graph_in;
 use crate::titles::titled_graph;
 use crate::words::View;
 use crate::writing::write_graph;
+use cyc_basics::memory::OutOfMemory;
 use cyc_lex::{Token, tokens};
-use cyc_memory::OutOfMemory;
-use named_pictures::{Naming, named_picture_of, program_lines, statements_of, title_of};
-use problem_names::goal_names;
+use problem_syntax::names::goal_names;
 use problem_syntax::{ProblemTree, read_problem_tree};
 use proof_check::check;
 use proof_file::ProofFile;
 use proof_picture::Label;
+use proof_picture::names::{Naming, named_picture_of, program_lines, statements_of, title_of};
 use std::alloc::Global;
 
 /// The text of the picture of a file in a view, with this title, in these names.
@@ -59,8 +59,8 @@ fn text_in(
     titled_text(alloc, view, file, &naming, title)
 }
 
-/// The text of the picture of a file in a view, in the words of the problem that these bytes spell. They were read before, so
-/// that a fault is out of memory.
+/// The text of the picture of a file in a view, in the words of the problem that these bytes spell. They were read
+/// before, so that a fault is out of memory.
 pub fn named_text(
     alloc: Global,
     view: View,

@@ -6,7 +6,7 @@ ghost use Rattle.draw_top.specs.Drawings.{box_node, fault_runs, label_runs, part
 
 use crate::graph::{Attribute, Run, Style, Value, Vertex};
 use crate::sets::{add_red, fault_text, number};
-use cyc_memory::OutOfMemory;
+use cyc_basics::memory::OutOfMemory;
 use heap_formula::RuleFault;
 use proof_picture::{Label, Piece};
 use std::alloc::Global;

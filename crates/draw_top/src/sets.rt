@@ -4,8 +4,8 @@ ghost use Rattle.draw_top.specs.Graphs.{Text, look_of, run_of, set_of};
 ghost use Rattle.draw_top.specs.Drawings.{fault_line, refused_sets, set_to};
 
 use crate::graph::{Attribute, Run, Style, Value};
-use cyc_memory::OutOfMemory;
-use cyc_texts::node_refused_line;
+use cyc_basics::memory::OutOfMemory;
+use cyc_runs::texts::node_refused_line;
 use heap_formula::RuleFault;
 use itoa::Buffer;
 use std::alloc::Global;

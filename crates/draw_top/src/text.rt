@@ -3,7 +3,7 @@ ghost use Rattle.std.specs.Prelude.{◌≡◌, ◌++◌, ◌∷◌, [], decimal,
 ghost use Rattle.draw_top.specs.Quoting.{escaped, marked_up, quoted};
 
 use crate::escapes::{entity_of, escape_of};
-use cyc_memory::OutOfMemory;
+use cyc_basics::memory::OutOfMemory;
 use itoa::Buffer;
 use std::alloc::Global;
 use std::marker::Model;

@@ -8,7 +8,7 @@ use crate::drawing::NOTE;
 use crate::graph::{Attribute, Graph, Run, Value};
 use crate::nodes::add_pieces;
 use crate::sets::{plain, set};
-use cyc_memory::OutOfMemory;
+use cyc_basics::memory::OutOfMemory;
 use proof_picture::Label;
 use std::alloc::Global;
 

@@ -1,11 +1,13 @@
 //! The text of a graph.
 ghost use Rattle.std.specs.Prelude.{◌≡◌, ◌++◌, map, IfOk, OnOk};
 ghost use Rattle.draw_top.specs.Graphs.{cluster_of, drawing_of, edge_of, node_of, run_of, set_of, setting_of};
-ghost use Rattle.draw_top.specs.Texts.{bold_begins, bold_text, run_text, runs_text, value_text, set_text, sets_text, bracketed, heading_text, node_text, nodes_text, cluster_heading, cluster_text, clusters_text, edge_text, edges_text, graph_text};
+ghost use Rattle.draw_top.specs.Texts.{bold_begins, bold_text, run_text, runs_text, value_text, set_text, sets_text};
+ghost use Rattle.draw_top.specs.Texts.{bracketed, heading_text, node_text, nodes_text, cluster_heading, cluster_text};
+ghost use Rattle.draw_top.specs.Texts.{clusters_text, edge_text, edges_text, graph_text};
 
 use crate::graph::{Arrow, Attribute, Cluster, Graph, Run, Style, Value, Vertex};
 use crate::text::DotText;
-use cyc_memory::OutOfMemory;
+use cyc_basics::memory::OutOfMemory;
 use std::alloc::Global;
 
 /// Writes the tags after which a text is bold and of a colour.

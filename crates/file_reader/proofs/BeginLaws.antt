@@ -1,5 +1,6 @@
 -- What stands before the nodes of a text, and its first node: what is held of them says the same.
-use Rattle.std.proofs.Common.{◌≡◌, ℕ, ◌+◌, ◌-◌, ◌<◌, false, List, [], ◌∷◌, ◌++◌, length, map, Some, None, refl, sym, ap, subst, ◌∙◌, arith, length-append}
+use Rattle.std.proofs.Common.{◌≡◌, ℕ, ◌+◌, ◌-◌, ◌<◌, false, List, [], ◌∷◌, ◌++◌, length, map, Some, None, refl, sym, ap}
+use Rattle.std.proofs.Common.{subst, ◌∙◌, arith, length-append}
 use Rattle.std.proofs.lemmas.List.{length-map}
 use Rattle.cyc_lex.specs.Placed.{Placed}
 use Rattle.cyc_lex.specs.Word.{Word, word_of}
@@ -8,12 +9,12 @@ use Rattle.heap_syntax.specs.Versions.{most_spatial}
 use Rattle.heap_reader.specs.Trees.{Heading, defined_headings}
 use Rattle.heap_reader.specs.Spans.{total}
 use Rattle.heap_reader.specs.Flaws.{Found as Flaws, or_later}
-use Rattle.line_reader.specs.Values.{program_value}
+use Rattle.heap_reader.specs.LineValues.{program_value}
 use Rattle.heap_reader.specs.declared.flaw.Flaw.{Flaw}
 use Rattle.heap_reader.proofs.NoFlaw.{neither}
 use Rattle.heap_reader.proofs.WithinSpans.{Before, flaw_within}
 use Rattle.proof_syntax.specs.Trees.{Definition, Line, Node, node_of}
-use Rattle.proof_statements.specs.Left.{Nodes as Among, At}
+use Rattle.proof_syntax.specs.Left.{Nodes as Among, At}
 use Rattle.proof_file.specs.Flaws.{headings, node_flaw, first_node, file_flaw}
 use Rattle.proof_file.specs.Spans.{node_span}
 use Rattle.proof_file.specs.Values.{definition_value, node_value}
@@ -68,7 +69,8 @@ told-none ts None e = refl
 told-none ts (Some flaw) e = absurd cc
 
 -- a flaw of what stands before the nodes stands at a token of it
-pub front-within : (v : Version) (ds : List Definition) (ls : List Line) (flaw : Flaw) → file_flaw (tree_of v ds ls []) ≡ Some flaw → flaw.token < first_node (tree_of v ds ls [])
+pub front-within : (v : Version) (ds : List Definition) (ls : List Line) (flaw : Flaw)
+    → file_flaw (tree_of v ds ls []) ≡ Some flaw → flaw.token < first_node (tree_of v ds ls [])
 front-within v ds ls flaw is =
     let t = tree_of v ds ls [] in
     let within = flaw_within (file_flaw t) (first_node t + total node_span t.nodes) flaw (file_before t) is in
@@ -102,7 +104,8 @@ module _ (ts : List Placed) (f : Front) (rest : List Word) (b : IsBegun (map wor
   all-is : all ≡ or_later front first
   all-is =
       file-flaws v ds ls [] (x ∷ [])
-      ∙ ap (or_later front) (later-none (node_flaw (most_spatial v) (headings ds) (length ls) 0 (front_size ds ls + 0) x) ∙ ap (λ (k : ℕ). node_flaw (most_spatial v) (headings ds) (length ls) 0 k x) none)
+      ∙ ap (or_later front) (later-none (node_flaw (most_spatial v) (headings ds) (length ls) 0 (front_size ds ls + 0)
+      x) ∙ ap (λ (k : ℕ). node_flaw (most_spatial v) (headings ds) (length ls) 0 k x) none)
     where
       none : front_size ds ls + 0 ≡ front_size ds ls
       none = omega arith
@@ -114,30 +117,42 @@ module _ (ts : List Placed) (f : Front) (rest : List Word) (b : IsBegun (map wor
   taken = parted.taken
 
   count : length ts ≡ length taken + length rest
-  count = omega (arith, ap length parted.all, length-append taken parted.left, ap length parted.others, length-map parted.left word_of)
+  count = omega (
+    arith,
+    ap length parted.all,
+    length-append taken parted.left,
+    ap length parted.others,
+    length-map parted.left word_of,
+  )
 
   spell : Spell taken v ds ls (x ∷ [])
   spell = record {
-    leads = subst (λ (ws : List Word). Leads ws (At Among) (λ ns. tree_of v ds ls (x ∷ ns))) (sym parted.words) b.leads.leads;
+    leads = subst (λ (ws : List Word). Leads ws (At Among) (λ ns. tree_of v ds ls (x ∷ ns))) (sym parted.words)
+        b.leads.leads;
     size = omega (arith, b.size, length-map ts word_of, count);
   }
 
   within : Before all (length taken)
   within = subst (λ (k : ℕ). Before all k) (sym spell.size) (file_before (tree_of v ds ls (x ∷ [])))
 
-  module _ (old : Beginning) (o : IsOpen ts f old) (hs : List Heading) (known : hs ≡ headings (front_defs f)) (before : ℕ) (zero : before ≡ 0) (new : Found) (a : IsAdded old.known hs before ts (node_of f.first) old.found new) where
+  module _ (old : Beginning) (o : IsOpen ts f old) (hs : List Heading) (known : hs ≡ headings (front_defs f))
+      (before : ℕ) (zero : before ≡ 0) (new : Found) (a : IsAdded old.known hs before ts (node_of f.first)
+      old.found new) where
     hs-is : hs ≡ headings ds
     hs-is = known ∙ ap headings b.are ∙ kept-headings ds
 
     front-is : old.found.flaw ≡ told_flaw 0 ts front
-    front-is = o.flaw ∙ ap (told_flaw 0 ts) (ap (λ (es : List Definition). file_flaw (tree_of v es ls [])) b.are ∙ kept-flaw v ds ls)
+    front-is = o.flaw ∙ ap (told_flaw 0 ts) (ap (λ (es : List Definition). file_flaw (tree_of v es ls [])) b.are
+        ∙ kept-flaw v ds ls)
 
     -- of the first node as it is kept
     abbrev kept_first : Flaws
     kept_first = node_flaw (most_spatial v) (headings ds) (length ls) 0 (front_size ds ls) (node_of f.first)
 
-    kept-is : node_flaw (most_spatial old.known.version) hs old.known.lines (length old.found.nodes.items) old.found.tokens (node_of f.first) ≡ kept_first
-    kept-is = λ i. node_flaw (most_spatial (o.opened.version i)) (hs-is i) (o.opened.lines i) (length (o.opened.nodes i)) ((o.opened.tokens ∙ b.before) i) (node_of f.first)
+    kept-is : node_flaw (most_spatial old.known.version) hs old.known.lines (length old.found.nodes.items)
+        old.found.tokens (node_of f.first) ≡ kept_first
+    kept-is = λ i. node_flaw (most_spatial (o.opened.version i)) (hs-is i) (o.opened.lines i)
+        (length (o.opened.nodes i)) ((o.opened.tokens ∙ b.before) i) (node_of f.first)
 
     first-is : kept_first ≡ first
     first-is = same-found v (headings ds) (length ls) 0 (front_size ds ls) (node_of f.first) x b.is None kept_first refl
@@ -162,13 +177,15 @@ module _ (ts : List Placed) (f : Front) (rest : List Word) (b : IsBegun (map wor
       whole = b.are ∙ whole-front v ds ls parts-none.0
 
       values : HasValues old.known ds ls
-      values = subst (λ (es : List Definition). HasValues old.known es ls) whole (o.values (front-is ∙ ap (told_flaw 0 ts) parts-none.0))
+      values = subst (λ (es : List Definition). HasValues old.known es ls) whole
+          (o.values (front-is ∙ ap (told_flaw 0 ts) parts-none.0))
 
       nodes-are : new.nodes.items ≡ map (node_value (headings ds)) (x ∷ [])
       nodes-are =
           a.nodes clean
           ∙ (λ i. o.opened.nodes i ++ node_value (hs-is i) (node_of f.first) ∷ [])
-          ∙ ap (λ (y : FileNode). y ∷ []) (same-value v (headings ds) (length ls) 0 (front_size ds ls) (node_of f.first) x b.is None kept_first refl (first-is ∙ parts-none.1))
+          ∙ ap (λ (y : FileNode). y ∷ []) (same-value v (headings ds) (length ls) 0 (front_size ds ls) (node_of f.first)
+          x b.is None kept_first refl (first-is ∙ parts-none.1))
 
       defs-are : defs_in old.known.front ≡ map (definition_value (headings ds)) ds
       defs-are = ap defs_in values.is ∙ values.definitions
@@ -177,7 +194,8 @@ module _ (ts : List Placed) (f : Front) (rest : List Word) (b : IsBegun (map wor
       program-is = ap program_in values.is ∙ values.program
 
     -- what is held in the end
-    module _ (last : Found) (flaw : last.flaw ≡ new.flaw) (nodes : last.nodes.items ≡ new.nodes.items) (tokens : last.tokens ≡ length ts - length rest) (ended : last.ended ≡ new.ended) where
+    module _ (last : Found) (flaw : last.flaw ≡ new.flaw) (nodes : last.nodes.items ≡ new.nodes.items)
+        (tokens : last.tokens ≡ length ts - length rest) (ended : last.ended ≡ new.ended) where
       abbrev held : Begun
       held = begun_in old.known last
 

@@ -1,5 +1,7 @@
 -- Statement by statement from the first node on.
-use Rattle.std.proofs.Common.{◌≡◌, ℕ, zero, suc, ◌+◌, ◌≤◌, ◌<◌, ◌^◌, Bool, true, false, List, [], ◌∷◌, ◌++◌, length, Option, Some, None, Result, Ok, Err, refl, sym, ap, subst, ◌∙◌, arith, length-append, append_assoc}
+use Rattle.std.proofs.Common.{◌≡◌, ℕ, zero, suc, ◌+◌, ◌≤◌, ◌<◌, ◌^◌, Bool, true, false, List, [], ◌∷◌, ◌++◌, length}
+use Rattle.std.proofs.Common.{Option, Some, None, Result, Ok, Err, refl, sym, ap, subst, ◌∙◌, arith, length-append}
+use Rattle.std.proofs.Common.{append_assoc}
 use Rattle.std.specs.Prelude.{map, IfOk}
 use Rattle.std.specs.Borrow.{Bor}
 use Rattle.std.specs.Str.{IsUtf8}
@@ -21,12 +23,12 @@ use Rattle.piecewise_lex.specs.Spans.{Ends, IsFront, front_tokens}
 use Rattle.piecewise_lex.specs.Taking.{Reading as Text, reading, cut_in, HasTaken}
 use Rattle.piecewise_lex.proofs.TakingBytes.{taken-count}
 use Rattle.piecewise_lex.proofs.TakingLaws.{taken-none, taken-more}
-use Rattle.proof_statements.specs.Left.{Nodes as Among, statement_of, kept_statement}
-use Rattle.proof_statements.proofs.LeftLaws.{statement-law}
-use Rattle.file_reader.specs.declared.known.Known.{Known}
+use Rattle.proof_syntax.specs.Left.{Nodes as Among, statement_of, kept_statement}
+use Rattle.proof_syntax.proofs.LeftLaws.{statement-law}
+use Rattle.file_reader.specs.declared.known.KnownFront.{KnownFront}
 use Rattle.file_reader.specs.declared.known.Found.{Found}
-use Rattle.file_reader.specs.declared.nodes.Step.{Step}
-use Rattle.file_reader.specs.declared.nodes.Step.TheVariants as steps
+use Rattle.file_reader.specs.declared.nodes.NodeStep.{NodeStep}
+use Rattle.file_reader.specs.declared.nodes.NodeStep.TheVariants as steps
 use Rattle.file_reader.specs.Outcomes.{syntax_fault}
 use Rattle.file_reader.specs.Stages.{Stage, Nodes, Dead, ahead}
 use Rattle.file_reader.specs.Steps.{Takes}
@@ -40,15 +42,22 @@ use Rattle.file_reader.proofs.StepLaws.{fault-within, node-fault-step, ended-ste
 -- ---- one statement
 
 -- a dead token
-node-dies : (k : Known) (ts : List Placed) (old : Found) (left : ℕ) → old.ended ≡ false → (statement_of Among).read (map word_of ts) ≡ Err left → 0 < left → IsStepDead k ts old old left
+node-dies : (k : KnownFront) (ts : List Placed) (old : Found) (left : ℕ) → old.ended ≡ false
+    → (statement_of Among).read (map word_of ts) ≡ Err left → 0 < left → IsStepDead k ts old old left
 node-dies k ts old zero going e some = absurd (omega (arith, some))
 node-dies k ts old (suc left) going e some = record {
   same = refl;
-  within = omega (arith, fault-within (statement_of Among) (statement-law Among) (map word_of ts) (suc left) e, length-map ts word_of);
+  within = omega (
+    arith,
+    fault-within (statement_of Among) (statement-law Among) (map word_of ts) (suc left) e,
+    length-map ts word_of,
+  );
   takes = node-fault-step (begun_in k old) ts left going e;
 }
 
-pub node-refused : {E : Type 0} (k : Known) (ts : List Placed) (old : Found) (e : Refusal) (result : Result Step E) → old.ended ≡ false → Fails e ((kept_statement kept Among).read (map word_of ts)) → IfOk result (IsRefused e) → IfOk result (IsStep k ts old old)
+pub node-refused : {E : Type 0} (k : KnownFront) (ts : List Placed) (old : Found) (e : Refusal)
+    (result : Result NodeStep E) → old.ended ≡ false → Fails e ((kept_statement kept Among).read (map word_of ts))
+    → IfOk result (IsRefused e) → IfOk result (IsStep k ts old old)
 node-refused k ts old e (Err x) going h r = tt
 node-refused k ts old refusals.OutOfMemory (Ok s) going h r = absurd r
 node-refused k ts old (refusals.Dead n) (Ok steps.Open) going h r = refl
@@ -60,21 +69,26 @@ abbrev dead_at : {A : Type 0} → Result A ℕ → ℕ
 dead_at (Ok x) = 0
 dead_at (Err n) = n
 
-end-dies : (k : Known) (ts : List Placed) (old : Found) (left : ℕ) → old.ended ≡ true → read_class the_end (map word_of ts) ≡ Err left → 0 < left → IsStepDead k ts old old left
+end-dies : (k : KnownFront) (ts : List Placed) (old : Found) (left : ℕ) → old.ended ≡ true
+    → read_class the_end (map word_of ts) ≡ Err left → 0 < left → IsStepDead k ts old old left
 end-dies k [] old left over e some = absurd (omega (arith, some, ap dead_at e))
 end-dies k (t ∷ ts) old left over e some = by (the_end.value (word_of t)) refl e
   where
-    by : (o : Option (Unit {0})) → the_end.value (word_of t) ≡ o → read_one o (word_of t) (map word_of ts) ≡ Err left → IsStepDead k (t ∷ ts) old old left
+    by : (o : Option (Unit {0})) → the_end.value (word_of t) ≡ o → read_one o (word_of t) (map word_of ts) ≡ Err left
+        → IsStepDead k (t ∷ ts) old old left
     by (Some u) is h = absurd cc
     by None is h =
         let all : left ≡ suc (length ts) = omega (arith, ap dead_at h, length-map ts word_of) in
         record {
           same = refl;
           within = omega (arith, all);
-          takes = subst (λ (n : ℕ). Takes (Nodes (begun_in k old)) (t ∷ ts) (Dead (syntax_fault old.tokens (t ∷ ts) n))) (sym all) (ended-step (begun_in k old) t ts over is);
+          takes = subst (λ (n : ℕ). Takes (Nodes (begun_in k old)) (t ∷ ts) (Dead (syntax_fault old.tokens (t ∷ ts) n)))
+              (sym all) (ended-step (begun_in k old) t ts over is);
         }
 
-pub end-refused : {E : Type 0} (k : Known) (ts : List Placed) (old : Found) (e : Refusal) (result : Result Step E) → old.ended ≡ true → Fails e (read_class the_end (map word_of ts)) → IfOk result (IsRefused e) → IfOk result (IsStep k ts old old)
+pub end-refused : {E : Type 0} (k : KnownFront) (ts : List Placed) (old : Found) (e : Refusal)
+    (result : Result NodeStep E) → old.ended ≡ true → Fails e (read_class the_end (map word_of ts))
+    → IfOk result (IsRefused e) → IfOk result (IsStep k ts old old)
 end-refused k ts old e (Err x) over h r = tt
 end-refused k ts old refusals.OutOfMemory (Ok s) over h r = absurd r
 end-refused k ts old (refusals.Dead n) (Ok steps.Open) over h r = refl
@@ -86,7 +100,8 @@ end-refused k ts old (refusals.Dead n) (Ok (steps.Dead left)) over h r =
 
 pub tokens-of-lexemes : (ws : List Word) → are_lexemes ws ≡ true → are_tokens ws ≡ true
 tokens-of-lexemes [] h = refl
-tokens-of-lexemes (w ∷ ws) h = let t = and-parts (is_lexeme w) (are_lexemes ws) h in rw (t.0, tokens-of-lexemes ws t.1) refl
+tokens-of-lexemes (w ∷ ws) h = let t = and-parts (is_lexeme w) (are_lexemes ws) h in
+    rw (t.0, tokens-of-lexemes ws t.1) refl
 
 -- ---- many statements
 
@@ -102,7 +117,8 @@ takes-more : (a b c : Stage) (ts us : List Placed) → Takes a ts b → Takes b 
 takes-more a b c ts us h k vs = ap (ahead a) (append_assoc ts us vs) ∙ h (us ++ vs) ∙ k vs
 
 -- what was read so far of a text, where no token was dead
-pub record SoFar (p : Place) (comment : Bool) (text : List ℕ) (k : Known) (old new : Found) (q : Place) (d : Bool) (rest : List ℕ) : Type 0 where
+pub record SoFar (p : Place) (comment : Bool) (text : List ℕ) (k : KnownFront) (old new : Found) (q : Place) (d : Bool)
+    (rest : List ℕ) : Type 0 where
   pub tokens : List Placed
   pub taken : HasTaken (reading p comment text) tokens (reading q d rest)
   pub room : HasRoom q (length rest)
@@ -111,8 +127,9 @@ pub record SoFar (p : Place) (comment : Bool) (text : List ℕ) (k : Known) (old
   pub takes : Takes (Nodes (begun_in k old)) tokens (Nodes (begun_in k new))
   pub steady : IsSteady k new
 
-module _ (p : Place) (comment : Bool) (text : List ℕ) (k : Known) (old : Found) where
-  pub run-none : HasRoom p (length text) → IsUtf8 text → old.tokens ≤ p.offset → IsSteady k old → SoFar p comment text k old old p comment text
+module _ (p : Place) (comment : Bool) (text : List ℕ) (k : KnownFront) (old : Found) where
+  pub run-none : HasRoom p (length text) → IsUtf8 text → old.tokens ≤ p.offset → IsSteady k old
+      → SoFar p comment text k old old p comment text
   run-none room utf8 few steady = record {
     tokens = [];
     taken = taken-none (reading p comment text);
@@ -124,7 +141,9 @@ module _ (p : Place) (comment : Bool) (text : List ℕ) (k : Known) (old : Found
   }
 
   -- all that is told of it
-  pub run-told : (new : Found) (q : Place) (d : Bool) (rest : Bor (List ℕ)) → SoFar p comment text k old new q d rest.now → IsRun p comment text k old new (record { dead = None; place = q; comment = d; rest = rest })
+  pub run-told : (new : Found) (q : Place) (d : Bool) (rest : Bor (List ℕ))
+      → SoFar p comment text k old new q d rest.now → IsRun p comment text k old new
+      (record { dead = None; place = q; comment = d; rest = rest })
   run-told new q d rest h = record {
     tokens = h.tokens;
     taken = h.taken;
@@ -135,7 +154,8 @@ module _ (p : Place) (comment : Bool) (text : List ℕ) (k : Known) (old : Found
     steady = h.steady;
   }
 
-  module _ (mid : Found) (q : Place) (d : Bool) (rest : List ℕ) (h : SoFar p comment text k old mid q d rest) (s : Span) (f : IsFront (reading q d rest) s) where
+  module _ (mid : Found) (q : Place) (d : Bool) (rest : List ℕ) (h : SoFar p comment text k old mid q d rest) (s : Span)
+      (f : IsFront (reading q d rest) s) where
     abbrev here : Text
     here = reading q d rest
 
@@ -152,7 +172,8 @@ module _ (p : Place) (comment : Bool) (text : List ℕ) (k : Known) (old : Found
     span-few = omega (arith, h.few, span-bytes, h.room.offset)
 
     taken-on : HasTaken (reading p comment text) (h.tokens ++ us) (reading s.place s.comment s.rest.now)
-    taken-on = taken-more (reading p comment text) here (reading s.place s.comment s.rest.now) h.tokens us h.taken f.taken
+    taken-on = taken-more (reading p comment text) here (reading s.place s.comment s.rest.now)
+        h.tokens us h.taken f.taken
 
     pub run-on : (new : Found) → IsStepTaken k us mid new → SoFar p comment text k old new s.place s.comment s.rest.now
     run-on new step = record {
@@ -161,21 +182,28 @@ module _ (p : Place) (comment : Bool) (text : List ℕ) (k : Known) (old : Found
       room = f.room;
       utf8 = f.utf8;
       few = omega (arith, h.few, step.tokens, far, span-bytes, span-size here s f);
-      takes = takes-more (Nodes (begun_in k old)) (Nodes (begun_in k mid)) (Nodes (begun_in k new)) h.tokens us h.takes step.takes;
+      takes = takes-more (Nodes (begun_in k old)) (Nodes (begun_in k mid)) (Nodes (begun_in k new))
+          h.tokens us h.takes step.takes;
       steady = step.steady;
     }
 
-    pub run-dies : (new : Found) (left : ℕ) (fault : ReadFault) → fault ≡ syntax_fault mid.tokens us left → IsStepDead k us mid new left → IsRun p comment text k old new (record { dead = Some fault; place = s.place; comment = s.comment; rest = s.rest })
+    pub run-dies : (new : Found) (left : ℕ) (fault : ReadFault) → fault ≡ syntax_fault mid.tokens us left
+        → IsStepDead k us mid new left → IsRun p comment text k old new
+        (record { dead = Some fault; place = s.place; comment = s.comment; rest = s.rest })
     run-dies new left fault is step = record {
       tokens = h.tokens ++ us;
       taken = taken-on;
       room = f.room;
       utf8 = f.utf8;
       few = omega (arith, h.few, ap (λ (x : Found). x.tokens) step.same, far, span-bytes);
-      takes = subst (λ (e : ReadFault). Takes (Nodes (begun_in k old)) (h.tokens ++ us) (Dead e)) (sym is) (takes-more (Nodes (begun_in k old)) (Nodes (begun_in k mid)) (Dead (syntax_fault mid.tokens us left)) h.tokens us h.takes step.takes);
+      takes = subst (λ (e : ReadFault). Takes (Nodes (begun_in k old)) (h.tokens ++ us) (Dead e)) (sym is)
+          (takes-more (Nodes (begun_in k old)) (Nodes (begun_in k mid)) (Dead (syntax_fault mid.tokens us left))
+          h.tokens us h.takes step.takes);
       steady = subst (λ (x : Found). IsSteady k x) (sym step.same) h.steady;
     }
 
   -- the tokens of the next statement
-  pub run-stretch : (mid : Found) (q : Place) (d : Bool) (rest : Bor (List ℕ)) (h : SoFar p comment text k old mid q d rest.now) (s : Span) → IsFront (reading q d rest.now) s → IsStretch (record { before = mid.tokens; place = q; comment = d; text = rest; count = s.tokens })
+  pub run-stretch : (mid : Found) (q : Place) (d : Bool) (rest : Bor (List ℕ))
+      (h : SoFar p comment text k old mid q d rest.now) (s : Span) → IsFront (reading q d rest.now) s
+      → IsStretch (record { before = mid.tokens; place = q; comment = d; text = rest; count = s.tokens })
   run-stretch mid q d rest h s f = record { room = h.room; within = f.within; few = span-few mid q d rest.now h s f }

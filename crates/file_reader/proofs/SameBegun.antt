@@ -14,12 +14,15 @@ abbrev flawed : ReadFault → ℕ → List Placed → Result (List Node) ℕ →
 flawed flaw before us (Err left) = Faulty (syntax_fault before us left)
 flawed flaw before us (Ok xs) = Faulty flaw
 
-with-flaw : (b : Begun) (flaw : ReadFault) (us : List Placed) (q : Result (List Node) ℕ) → b.flaw ≡ Some flaw → nodes_outcome b us q ≡ flawed flaw b.tokens us q
+with-flaw : (b : Begun) (flaw : ReadFault) (us : List Placed) (q : Result (List Node) ℕ) → b.flaw ≡ Some flaw
+    → nodes_outcome b us q ≡ flawed flaw b.tokens us q
 with-flaw b flaw us (Err left) is = refl
-with-flaw b flaw us (Ok xs) is = ap (λ (o : Option ReadFault). settled (or_else o (nodes_fault (most_spatial b.version) b.headings b.lines b.count b.tokens us xs)) (said_with b xs)) is
+with-flaw b flaw us (Ok xs) is = ap (λ (o : Option ReadFault). settled
+    (or_else o (nodes_fault (most_spatial b.version) b.headings b.lines b.count b.tokens us xs)) (said_with b xs)) is
 
 -- the flaw, the number of tokens and whether "end;" came; and all of it where there is no flaw
-pub begun-same : (b c : Begun) → b.flaw ≡ c.flaw → b.tokens ≡ c.tokens → b.ended ≡ c.ended → (c.flaw ≡ None → b ≡ c) → (us : List Placed) → ahead (Nodes b) us ≡ ahead (Nodes c) us
+pub begun-same : (b c : Begun) → b.flaw ≡ c.flaw → b.tokens ≡ c.tokens → b.ended ≡ c.ended → (c.flaw ≡ None → b ≡ c)
+    → (us : List Placed) → ahead (Nodes b) us ≡ ahead (Nodes c) us
 begun-same b c flaw tokens ended same us = by c.flaw refl
   where
     left : Bool → Result (List Node) ℕ

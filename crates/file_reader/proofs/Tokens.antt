@@ -1,5 +1,6 @@
 -- Tokens among others, and the faults that stand at them.
-use Rattle.std.proofs.Common.{◌≡◌, ℕ, zero, suc, ◌+◌, ◌-◌, ◌≤◌, ◌<◌, List, [], ◌∷◌, ◌++◌, length, take, drop, Some, refl, ap, ◌∙◌, arith, length-append}
+use Rattle.std.proofs.Common.{◌≡◌, ℕ, zero, suc, ◌+◌, ◌-◌, ◌≤◌, ◌<◌, List, [], ◌∷◌, ◌++◌, length, take, drop, Some}
+use Rattle.std.proofs.Common.{refl, ap, ◌∙◌, arith, length-append}
 use Rattle.std.specs.Prelude.{slice_get}
 use Rattle.cyc_lex.specs.declared.fault.ReadFault.TheVariants as faults
 use Rattle.cyc_lex.specs.Placed.{Placed}
@@ -32,7 +33,8 @@ slice-take (suc n) zero (t ∷ ts) h = refl
 slice-take (suc n) (suc j) (t ∷ ts) h = slice-take n j ts (omega (arith, h))
 
 -- a fault among the later tokens
-pub syntax-later : (before left : ℕ) (ts us : List Placed) → left ≤ length us → syntax_fault before (ts ++ us) left ≡ syntax_fault (before + length ts) us left
+pub syntax-later : (before left : ℕ) (ts us : List Placed) → left ≤ length us
+    → syntax_fault before (ts ++ us) left ≡ syntax_fault (before + length ts) us left
 syntax-later before left ts us h = λ i. at_token faults.Syntax (number i) (token i)
   where
     place : length (ts ++ us) - left ≡ length ts + (length us - left)
@@ -45,7 +47,8 @@ syntax-later before left ts us h = λ i. at_token faults.Syntax (number i) (toke
     token = ap (slice_get (ts ++ us)) place ∙ slice-behind ts us (length us - left)
 
 -- and among the first
-pub syntax-first : (before left : ℕ) (ts us : List Placed) → 0 < left → left ≤ length ts → syntax_fault before (ts ++ us) (left + length us) ≡ syntax_fault before ts left
+pub syntax-first : (before left : ℕ) (ts us : List Placed) → 0 < left → left ≤ length ts
+    → syntax_fault before (ts ++ us) (left + length us) ≡ syntax_fault before ts left
 syntax-first before left ts us some h = λ i. at_token faults.Syntax (before + place i) (token i)
   where
     place : length (ts ++ us) - (left + length us) ≡ length ts - left

@@ -2,7 +2,7 @@
 use Rattle.std.specs.Prelude.{◌≡◌, ℕ, ◌+◌, Bool, true, false, List, [], ◌∷◌, ◌++◌, length, map, Result, Ok, Err, ◌⊎◌}
 use Rattle.std.proofs.Common.{inl, inr}
 use Rattle.cyc_lex.specs.Word.{Word}
-use Rattle.cyc_limits.specs.declared.TheConstants.{MOST_PURE}
+use Rattle.cyc_basics.specs.declared.limits.TheConstants.{MOST_PURE}
 use Rattle.cyc_grammar.specs.Syntax.{Reading}
 use Rattle.cyc_grammar.specs.Giving.{Fails}
 use Rattle.cyc_grammar.specs.declared.cursor.Refusal.{Refusal}
@@ -10,11 +10,11 @@ use Rattle.heap_syntax.specs.declared.keep.Keep.{Keep}
 use Rattle.heap_syntax.specs.declared.keep.Keep.TheVariants.{Beyond}
 use Rattle.heap_syntax.specs.declared.version.Version.{Version}
 use Rattle.heap_reader.specs.Spans.{total}
-use Rattle.line_reader.specs.Spans.{line_span}
+use Rattle.heap_reader.specs.LineSpans.{line_span}
 use Rattle.proof_syntax.specs.Trees.{Definition, Line, Node, File, definition_of, node_of}
 use Rattle.proof_syntax.specs.Grammar.{node, file}
 use Rattle.proof_syntax.specs.Keeping.{definition_front, node_front}
-use Rattle.proof_statements.specs.Left.{Preds, Lines, Nodes, Reached, At, Left, statement_of, kept_statement, joined}
+use Rattle.proof_syntax.specs.Left.{Preds, Lines, Nodes, Reached, At, Left, statement_of, kept_statement, joined}
 use Rattle.proof_file.specs.Spans.{definition_span, variable_span, node_span}
 use Rattle.file_reader.specs.declared.front.Front.{Front}
 use Rattle.file_reader.specs.Steps.{Leads, tree_of}
@@ -53,7 +53,8 @@ abbrev pub front_size : List Definition → List Line → ℕ
 front_size ds ls = 4 + total definition_span ds + total (line_span variable_span) ls
 
 -- and these trees are kept of the definitions
-pub record IsFront (in_lines : Bool) (v : Version) (trees : List Definition) (ls : List Line) (ws rest : List Word) : Type 0 where
+pub record IsFront (in_lines : Bool) (v : Version) (trees : List Definition) (ls : List Line) (ws rest : List Word)
+    : Type 0 where
   pub definitions : List Definition
   pub are : trees ≡ map (definition_front kept) definitions
   pub leads : LeadsFront in_lines v definitions ls ws rest

@@ -11,7 +11,7 @@ use Rattle.piecewise_lex.specs.Taking.{reading, tokens_in}
 use Rattle.file_reader.specs.declared.held.Running.{Running}
 use Rattle.file_reader.specs.declared.held.Held.{Held}
 use Rattle.file_reader.specs.declared.held.Held.TheVariants as kinds
-use Rattle.file_reader.specs.declared.known.Known.{Known}
+use Rattle.file_reader.specs.declared.known.KnownFront.{KnownFront}
 use Rattle.file_reader.specs.declared.known.Found.{Found}
 use Rattle.file_reader.specs.declared.nodes.Ran.{Ran}
 use Rattle.file_reader.specs.Stages.{Head, Nodes, Dead, Unlexed, Lost, Parts}
@@ -64,10 +64,12 @@ IsToldStop stops.OutOfMemory f = f ≡ faults.OutOfMemory
 IsToldStop (stops.At bad p) f = f ≡ faults.Lex (fault_of bad p)
 
 -- what is held after statements were read, where these bytes wait
-abbrev pub IsAfter : Known → Found → Ran → List ℕ → Held → Type 0
+abbrev pub IsAfter : KnownFront → Found → Ran → List ℕ → Held → Type 0
 IsAfter k f r bytes (kinds.Opening o) = ⊥
-IsAfter k f r bytes (kinds.Running x) = (r.dead ≡ None) × (x.known ≡ k) × (x.found ≡ f) × (x.place ≡ r.place) × (x.comment ≡ r.comment) × (x.waiting.items ≡ bytes)
-IsAfter k f r bytes (kinds.Faulty x) = (r.dead ≡ Some x.fault) × (x.place ≡ r.place) × (x.comment ≡ r.comment) × (x.waiting.items ≡ bytes)
+IsAfter k f r bytes (kinds.Running x) = (r.dead ≡ None) × (x.known ≡ k) × (x.found ≡ f) × (x.place ≡ r.place)
+    × (x.comment ≡ r.comment) × (x.waiting.items ≡ bytes)
+IsAfter k f r bytes (kinds.Faulty x) = (r.dead ≡ Some x.fault) × (x.place ≡ r.place) × (x.comment ≡ r.comment)
+    × (x.waiting.items ≡ bytes)
 IsAfter k f r bytes (kinds.Unlexed fault n) = ⊥
 IsAfter k f r bytes (kinds.Lost n) = ⊥
 

@@ -1,17 +1,17 @@
 -- What a reader holds of a proof file from the first node on.
 use Rattle.std.specs.Prelude.{◌≡◌, ℕ, ◌≤◌, false, List, [], ◌∷◌, ◌++◌, length, map, Option, Some, None}
 use Rattle.cyc_lex.specs.Placed.{Placed}
-use Rattle.cyc_limits.specs.declared.TheConstants.{MOST_PREDICATES}
+use Rattle.cyc_basics.specs.declared.limits.TheConstants.{MOST_PREDICATES}
 use Rattle.heap_syntax.specs.Versions.{most_spatial}
 use Rattle.heap_formula.specs.declared.commands.Command.{Command}
 use Rattle.heap_formula.specs.Definitions.{Definition as DefinitionValue}
 use Rattle.heap_reader.specs.Trees.{Heading, defined_headings}
-use Rattle.line_reader.specs.Values.{program_value}
+use Rattle.heap_reader.specs.LineValues.{program_value}
 use Rattle.proof_syntax.specs.Trees.{Definition, Line, Node}
 use Rattle.proof_file.specs.declared.building.FileFront.{FileFront}
 use Rattle.proof_file.specs.Flaws.{headings, node_flaw, file_flaw}
 use Rattle.proof_file.specs.Values.{definition_value, node_value}
-use Rattle.file_reader.specs.declared.known.Known.{Known}
+use Rattle.file_reader.specs.declared.known.KnownFront.{KnownFront}
 use Rattle.file_reader.specs.declared.known.Found.{Found}
 use Rattle.file_reader.specs.Outcomes.{or_else, told_flaw}
 use Rattle.file_reader.specs.Stages.{Begun}
@@ -26,7 +26,7 @@ program_in (Some f) = f.program
 program_in None = []
 
 -- what is held, as what the statements so far say
-abbrev pub begun_in : Known → Found → Begun
+abbrev pub begun_in : KnownFront → Found → Begun
 begun_in k f = record {
   version = k.version;
   headings = defined_headings (defs_in k.front);
@@ -41,12 +41,12 @@ begun_in k f = record {
 }
 
 -- what uses of the predicates are compared with
-pub record IsHeads (k : Known) (hs : List Heading) : Type 0 where
+pub record IsHeads (k : KnownFront) (hs : List Heading) : Type 0 where
   pub value : hs ≡ defined_headings (defs_in k.front)
   pub few : length hs ≤ MOST_PREDICATES
 
 -- these are the values of definitions and lines
-pub record HasValues (k : Known) (ds : List Definition) (ls : List Line) : Type 0 where
+pub record HasValues (k : KnownFront) (ds : List Definition) (ls : List Line) : Type 0 where
   pub front : FileFront
   pub is : k.front ≡ Some front
   pub most : front.defs.most ≡ most_spatial k.version
@@ -54,7 +54,7 @@ pub record HasValues (k : Known) (ds : List Definition) (ls : List Line) : Type 
   pub program : front.program ≡ program_value ls
 
 -- tokens spell what is held, which has no flaw
-pub record IsTold (k : Known) (f : Found) : Type 0 where
+pub record IsTold (k : KnownFront) (f : Found) : Type 0 where
   pub tokens : List Placed
   pub definitions : List Definition
   pub program : List Line
@@ -67,12 +67,14 @@ pub record IsTold (k : Known) (f : Found) : Type 0 where
   pub count : f.ended ≡ false → f.tokens ≡ length tokens
 
 -- where there is no flaw so far, all that is held was told
-abbrev pub IsSteady : Known → Found → Type 0
+abbrev pub IsSteady : KnownFront → Found → Type 0
 IsSteady k f = f.flaw ≡ None → IsTold k f
 
 -- a node came after others, whose tokens are among these: its value is with theirs, or this is the first flaw so far
-pub record IsAdded (k : Known) (hs : List Heading) (before : ℕ) (ts : List Placed) (x : Node) (old new : Found) : Type 0 where
-  pub flaw : new.flaw ≡ or_else old.flaw (told_flaw before ts (node_flaw (most_spatial k.version) hs k.lines (length old.nodes.items) old.tokens x))
+pub record IsAdded (k : KnownFront) (hs : List Heading) (before : ℕ) (ts : List Placed) (x : Node) (old new : Found)
+    : Type 0 where
+  pub flaw : new.flaw ≡ or_else old.flaw (told_flaw before ts
+      (node_flaw (most_spatial k.version) hs k.lines (length old.nodes.items) old.tokens x))
   pub nodes : new.flaw ≡ None → new.nodes.items ≡ old.nodes.items ++ node_value hs x ∷ []
   pub tokens : new.tokens ≡ old.tokens
   pub ended : new.ended ≡ old.ended

@@ -17,7 +17,7 @@ use Rattle.proof_syntax.specs.Grammar.{file}
 use Rattle.proof_file.specs.declared.file.ProofFile.{ProofFile}
 use Rattle.proof_file.specs.FileNodes.{FileNode}
 use Rattle.proof_file.specs.Flaws.{headings, file_flaw}
-use Rattle.line_reader.specs.Values.{program_value}
+use Rattle.heap_reader.specs.LineValues.{program_value}
 use Rattle.proof_file.specs.Values.{definition_value, node_value}
 
 -- what a proof file says

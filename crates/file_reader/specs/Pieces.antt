@@ -57,7 +57,8 @@ IsOpen Lost = ⊥
 -- the tokens stand at the front of the bytes of the first reader, whatever comes; the second has the bytes after them
 abbrev pub Comes : Parts → List Placed → Parts → Type 0
 Comes old ts new =
-    (more : List ℕ) → tokens_from old.place old.comment (old.pending ++ more) ≡ with_tokens ts (tokens_from new.place new.comment (new.pending ++ more))
+    (more : List ℕ) → tokens_from old.place old.comment (old.pending ++ more)
+    ≡ with_tokens ts (tokens_from new.place new.comment (new.pending ++ more))
 
 -- the bytes have this first bad place, whatever comes
 abbrev pub IsBad : Parts → Bad → Place → Type 0

@@ -1,5 +1,6 @@
 -- What a reader of a proof file holds that was fed some of the text, and what the text comes to, whatever is fed next.
-use Rattle.std.specs.Prelude.{ℕ, suc, ◌+◌, Bool, true, false, List, [], ◌∷◌, ◌++◌, take, drop, map, Option, None, Result, Ok, Err}
+use Rattle.std.specs.Prelude.{ℕ, suc, ◌+◌, Bool, true, false, List, [], ◌∷◌, ◌++◌, take, drop, map, Option, None}
+use Rattle.std.specs.Prelude.{Result, Ok, Err}
 use Rattle.cyc_lex.specs.declared.fault.LexFault.{LexFault}
 use Rattle.cyc_lex.specs.declared.fault.ReadFault.{ReadFault}
 use Rattle.cyc_lex.specs.declared.fault.ReadFault.TheVariants as faults
@@ -17,13 +18,14 @@ use Rattle.heap_formula.specs.declared.commands.Command.{Command}
 use Rattle.heap_formula.specs.Definitions.{Definition}
 use Rattle.heap_reader.specs.Trees.{Heading}
 use Rattle.proof_syntax.specs.Trees.{Node}
-use Rattle.proof_statements.specs.Left.{At, Ended, Nodes as Among, left_of}
+use Rattle.proof_syntax.specs.Left.{At, Ended, Nodes as Among, left_of}
 use Rattle.proof_file.specs.declared.file.ProofFile.{ProofFile}
 use Rattle.proof_file.specs.FileNodes.{FileNode}
 use Rattle.proof_file.specs.Flaws.{node_flaw}
 use Rattle.proof_file.specs.Spans.{node_span}
 use Rattle.proof_file.specs.Values.{node_value}
-use Rattle.file_reader.specs.Outcomes.{Said, Outcome, Faulty, Agrees, or_else, told_flaw, settled, syntax_fault, whole_outcome}
+use Rattle.file_reader.specs.Outcomes.{Said, Outcome, Faulty, Agrees, or_else, told_flaw, settled, syntax_fault}
+use Rattle.file_reader.specs.Outcomes.{whole_outcome}
 
 -- ---- from the first node on
 
@@ -66,7 +68,8 @@ nodes_left true ws = read_whole (left_of Ended) ws >>= λ u. Ok []
 abbrev pub nodes_outcome : Begun → List Placed → Result (List Node) ℕ → Outcome
 nodes_outcome b ts (Err left) = Faulty (syntax_fault b.tokens ts left)
 nodes_outcome b ts (Ok xs) =
-    settled (or_else b.flaw (nodes_fault (most_spatial b.version) b.headings b.lines b.count b.tokens ts xs)) (said_with b xs)
+    settled (or_else b.flaw (nodes_fault (most_spatial b.version) b.headings b.lines b.count b.tokens ts xs))
+    (said_with b xs)
 
 -- ---- what a reader holds
 

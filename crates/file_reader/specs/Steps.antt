@@ -6,13 +6,14 @@ use Rattle.cyc_lex.specs.Word.{Word, word_of}
 use Rattle.heap_syntax.specs.declared.version.Version.{Version}
 use Rattle.heap_syntax.specs.Versions.{most_spatial}
 use Rattle.heap_reader.specs.Spans.{total}
-use Rattle.line_reader.specs.Spans.{line_span}
+use Rattle.heap_reader.specs.LineSpans.{line_span}
 use Rattle.proof_syntax.specs.Trees.{Definition, Line, Node, File}
 use Rattle.proof_syntax.specs.Grammar.{file}
-use Rattle.proof_statements.specs.Left.{Part, First, Preds, Lines, Nodes as Among, Reached, At, Left, left_of, Statement, joined}
+use Rattle.proof_syntax.specs.Left.{Part, First, Preds, Lines, Nodes as Among, Reached, At, Left, left_of, Statement}
+use Rattle.proof_syntax.specs.Left.{joined}
 use Rattle.proof_file.specs.Flaws.{headings, node_flaw, first_node, file_flaw}
 use Rattle.proof_file.specs.Spans.{definition_span, variable_span, node_span}
-use Rattle.line_reader.specs.Values.{program_value}
+use Rattle.heap_reader.specs.LineValues.{program_value}
 use Rattle.proof_file.specs.Values.{definition_value, node_value}
 use Rattle.file_reader.specs.Outcomes.{or_else, told_flaw}
 use Rattle.file_reader.specs.Stages.{Begun, Stage, ahead}
@@ -42,7 +43,8 @@ abbrev pub tree_of : Version → List Definition → List Line → List Node →
 tree_of v ds ls xs = record { version = v; definitions = ds; lines = ls; nodes = xs }
 
 -- the tokens spell the version, definitions, lines and nodes
-pub record Spell (ts : List Placed) (v : Version) (ds : List Definition) (ls : List Line) (xs : List Node) : Type 0 where
+pub record Spell (ts : List Placed) (v : Version) (ds : List Definition) (ls : List Line) (xs : List Node)
+    : Type 0 where
   pub leads : Leads (map word_of ts) (At Among) (λ ns. tree_of v ds ls (xs ++ ns))
   pub size : length ts ≡ first_node (tree_of v ds ls xs) + total node_span xs
 
@@ -74,7 +76,8 @@ with_node b ts x = record {
   nodes = b.nodes ++ node_value b.headings x ∷ [];
   count = suc b.count;
   tokens = b.tokens + length ts;
-  flaw = or_else b.flaw (told_flaw b.tokens ts (node_flaw (most_spatial b.version) b.headings b.lines b.count b.tokens x));
+  flaw = or_else b.flaw (told_flaw b.tokens ts (node_flaw (most_spatial b.version)
+      b.headings b.lines b.count b.tokens x));
   ended = b.ended;
 }
 

@@ -2,11 +2,11 @@
 
 ghost use Rattle.std.specs.Prelude.{◌≡◌, ◌≤◌, ◌+◌, ◌-◌, IfOk, None, Ok, false, length, map, take};
 ghost use Rattle.cyc_lex.specs.Word.{word_of};
-ghost use Rattle.cyc_limits.specs.declared.TheConstants.{MOST_PREDICATES};
+ghost use Rattle.cyc_basics.specs.declared.limits.TheConstants.{MOST_PREDICATES};
 ghost use Rattle.proof_syntax.specs.Grammar.{node};
 ghost use Rattle.proof_syntax.specs.Trees.{node_of};
-ghost use Rattle.proof_statements.specs.Left.{Nodes, kept_statement};
-ghost use Rattle.proof_statements.specs.Trees.{node_or_end_of};
+ghost use Rattle.proof_syntax.specs.Left.{Nodes, kept_statement};
+ghost use Rattle.proof_syntax.specs.StatementTrees.{node_or_end_of};
 ghost use Rattle.proof_file.specs.Spans.{node_span};
 ghost use Rattle.file_reader.specs.Fronts.{kept};
 ghost use Rattle.file_reader.specs.Stretches.{IsStretch, tokens_of};
@@ -14,20 +14,20 @@ ghost use Rattle.file_reader.specs.Knowns.{IsAdded, IsHeads, IsSteady};
 ghost use Rattle.file_reader.specs.Runs.{IsStepTaken};
 ghost use Rattle.file_reader.specs.Lasts.{StandsIn, left_from};
 
-use crate::known::{Found, Known};
+use crate::known::{Found, KnownFront};
 use crate::stretch::Stretch;
 use cyc_grammar::Cursor;
 use cyc_lex::OutOfMemory;
 use heap_reader::Heads;
 use proof_file::{NodeFault, node_of_tree};
-use proof_statements::NodeOrEnd;
 use proof_syntax::NodeTree;
+use proof_syntax::statements::NodeOrEnd;
 use std::alloc::Global;
 
 /// Finds what the next node says, whose tokens are some of these. After a flaw no value is made or held.
 pub fn add_node(
     alloc: Global,
-    known: &Known,
+    known: &KnownFront,
     heads: &Heads<'_>,
     stretch: Stretch<'_>,
     tree: &NodeTree<'_>,
@@ -62,7 +62,7 @@ pub fn add_node(
 /// Takes a node, or the last statement, which was read of the next of these tokens up to the cursor.
 pub fn add_statement(
     alloc: Global,
-    known: &Known,
+    known: &KnownFront,
     heads: &Heads<'_>,
     stretch: Stretch<'_>,
     statement: &NodeOrEnd<'_>,

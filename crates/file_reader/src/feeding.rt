@@ -9,12 +9,13 @@ ghost use Rattle.piecewise_lex.specs.Spans.{IsFront, front_tokens};
 ghost use Rattle.file_reader.specs.Pieces.{IsLost, bytes_fed};
 ghost use Rattle.file_reader.specs.Knowns.{IsSteady};
 ghost use Rattle.file_reader.specs.Runs.{Runs};
-ghost use Rattle.file_reader.specs.Helds.{parts_of, IsAfter, IsHeld, IsKept, IsOpenedTo, Opens, IsRunning, IsSmall, IsStopped};
+ghost use Rattle.file_reader.specs.Helds.{parts_of, IsAfter, IsHeld, IsKept, IsOpenedTo, Opens, IsRunning, IsSmall};
+ghost use Rattle.file_reader.specs.Helds.{IsStopped};
 ghost use Rattle.file_reader.specs.declared.held.Held.TheVariants as kinds;
 
 use crate::first_node::begin;
 use crate::held::{Faulty, Held, Opening, Running};
-use crate::known::{Found, Known, known_heads};
+use crate::known::{Found, KnownFront, known_heads};
 use crate::nodes::{Ran, read_nodes};
 use crate::passing::pass_tokens;
 use crate::stretch::Stretch;
@@ -60,7 +61,8 @@ fn enough_after(left: usize) -> usize
     LEAST.max(left + left)
 }
 
-/// What is held once the first node came, or a syntax fault; none where neither did. So many tokens of the text were taken.
+/// What is held once the first node came, or a syntax fault; none where neither did. So many tokens of the text were
+/// taken.
 fn opened_at<'a>(
     alloc: Global,
     valid: Valid<'a>,
@@ -146,7 +148,7 @@ fn open(alloc: Global, opening: Opening) -> Result<Held, OutOfMemory>
 /// Reads the statements at the front of a text from the first node on.
 fn read_text<'a>(
     alloc: Global,
-    known: &Known,
+    known: &KnownFront,
     place: Place,
     comment: bool,
     text: &'a str,
@@ -162,7 +164,7 @@ fn read_text<'a>(
 }
 
 /// What is held after statements were read, where these bytes wait.
-fn after_nodes(known: Known, found: Found, ran: Ran<'_>, waiting: Vec<u8>) -> Held
+fn after_nodes(known: KnownFront, found: Found, ran: Ran<'_>, waiting: Vec<u8>) -> Held
     requires { length waiting.items < 2 ^ 32 }
     ensures { IsAfter known found ran.entry waiting.items result }
 {

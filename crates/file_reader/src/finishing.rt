@@ -46,8 +46,8 @@ fn finish_faulty(faulty: &Faulty) -> ReadFault
     }
 }
 
-/// All tokens of bytes that stand at a place, where a comment goes on or none does, and before which so many others stand; or
-/// their first fault.
+/// All tokens of bytes that stand at a place, where a comment goes on or none does, and before which so many others
+/// stand; or their first fault.
 fn last_tokens(
     before: u32,
     place: Place,

@@ -10,19 +10,19 @@ ghost use Rattle.file_reader.specs.Beginnings.{IsOpened, IsOpen, IsBeginning, Be
 
 use crate::adding::add_node;
 use crate::front::{Front, read_front};
-use crate::known::{Found, Known};
+use crate::known::{Found, KnownFront};
 use crate::stretch::Stretch;
 use cyc_grammar::{Cursor, Refusal};
 use cyc_lex::{OutOfMemory, ReadFault};
 use heap_reader::Heads;
-use pred_reader::heads;
+use heap_reader::definitions::heads;
 use proof_file::{FileFront, front_flaw, front_values};
 use std::alloc::Global;
 
 /// What stands before the nodes of a text and what the first node says.
 #[derive(Drop)]
 pub struct Beginning {
-    pub known: Known,
+    pub known: KnownFront,
     pub found: Found,
 }
 
@@ -39,7 +39,7 @@ fn opened(
     ensures values { result.known.front ≡ values }
 {
     Beginning {
-        known: Known {
+        known: KnownFront {
             version: front.version,
             lines: front.lines.len(),
             front: values,

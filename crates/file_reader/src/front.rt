@@ -5,11 +5,12 @@ ghost use Rattle.file_reader.specs.Fronts.{ReadsFront};
 use crate::part::read_part;
 use cyc_grammar::{Cursor, Refusal};
 use heap_syntax::Version;
-use proof_statements::{LineOrNode, PredOrLater, first_statement};
+use proof_syntax::statements::{LineOrNode, PredOrLater, first_statement};
 use proof_syntax::{DefinitionTree, LineTree, NodeTree};
 use std::alloc::Global;
 
-/// What is kept of what stands before the nodes of a file, with its number of tokens, and what is kept of the first node.
+/// What is kept of what stands before the nodes of a file, with its number of tokens, and what is kept of the first
+/// node.
 #[derive(Drop)]
 pub struct Front<'a> {
     pub version: Version,

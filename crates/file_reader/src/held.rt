@@ -1,21 +1,21 @@
 //! What a reader holds of a text that it was fed so far.
 
-use crate::known::{Found, Known};
+use crate::known::{Found, KnownFront};
 use cyc_lex::{LexFault, Place, ReadFault};
 
-/// A text of which no node has come: all its bytes, since a use may name a predicate that is defined later. They are looked
-/// at again once so many came.
+/// A text of which no node has come: all its bytes, since a use may name a predicate that is defined later. They are
+/// looked at again once so many came.
 #[derive(Drop)]
 pub struct Opening {
     pub all: Vec<u8>,
     pub enough: usize,
 }
 
-/// A text without a syntax fault so far, from its first node on: what it says up to a place, whether a comment goes on there,
-/// and the bytes from there on, which wait and are looked at again once so many do.
+/// A text without a syntax fault so far, from its first node on: what it says up to a place, whether a comment goes on
+/// there, and the bytes from there on, which wait and are looked at again once so many do.
 #[derive(Drop)]
 pub struct Running {
-    pub known: Known,
+    pub known: KnownFront,
     pub found: Found,
     pub place: Place,
     pub comment: bool,
@@ -23,8 +23,8 @@ pub struct Running {
     pub enough: usize,
 }
 
-/// A text with a syntax fault, which a lexical fault may still go before: the bytes that wait, with the place where they
-/// begin and whether a comment goes on there. They are looked at again once so many wait.
+/// A text with a syntax fault, which a lexical fault may still go before: the bytes that wait, with the place where
+/// they begin and whether a comment goes on there. They are looked at again once so many wait.
 #[derive(Drop)]
 pub struct Faulty {
     pub fault: ReadFault,

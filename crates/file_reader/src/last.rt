@@ -9,20 +9,20 @@ ghost use Rattle.file_reader.specs.Stretches.{IsStretch};
 ghost use Rattle.file_reader.specs.Lasts.{StandsIn, Lasts, Ends, comes_to};
 
 use crate::adding::add_statement;
-use crate::known::{Found, Known, known_heads};
+use crate::known::{Found, KnownFront, known_heads};
 use crate::part::KEPT;
 use crate::stretch::Stretch;
 use cyc_grammar::{Cursor, Refusal};
 use cyc_lex::ReadFault;
 use heap_reader::Heads;
 use proof_file::{ProofFile, file_of_values};
-use proof_statements::kept_node_or_end;
+use proof_syntax::statements::kept_node_or_end;
 use std::alloc::Global;
 
 /// Reads the nodes that are left, and the last statement.
 fn read_left(
     alloc: Global,
-    known: &Known,
+    known: &KnownFront,
     heads: &Heads<'_>,
     stretch: Stretch<'_>,
     cursor: &mut Cursor<'_, '_>,
@@ -46,7 +46,7 @@ fn read_left(
 /// Reads the statements that are left, if the last one did not come.
 fn read_statements(
     alloc: Global,
-    known: &Known,
+    known: &KnownFront,
     stretch: Stretch<'_>,
     cursor: &mut Cursor<'_, '_>,
     found: &mut Found,
@@ -66,7 +66,7 @@ fn read_statements(
 /// Reads the statements that are left, and the end of the text.
 fn read_end(
     alloc: Global,
-    known: &Known,
+    known: &KnownFront,
     stretch: Stretch<'_>,
     cursor: &mut Cursor<'_, '_>,
     found: &mut Found,
@@ -85,11 +85,11 @@ fn read_end(
 }
 
 /// What was read says, after the end of the text.
-fn said(known: Known, found: Found) -> Result<ProofFile, ReadFault>
+fn said(known: KnownFront, found: Found) -> Result<ProofFile, ReadFault>
     requires { IsSteady known found }
     ensures { Tells (settled found.flaw (said_with (begun_in known found) [])) result }
 {
-    let Known {
+    let KnownFront {
         version,
         lines: _,
         front,
@@ -107,7 +107,7 @@ fn said(known: Known, found: Found) -> Result<ProofFile, ReadFault>
 /// What a text says of which this is held, and these tokens are left, with the end token; or its first fault.
 pub fn read_last(
     alloc: Global,
-    known: Known,
+    known: KnownFront,
     found: Found,
     stretch: Stretch<'_>,
     cursor: &mut Cursor<'_, '_>,

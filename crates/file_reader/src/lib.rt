@@ -1,5 +1,5 @@
-//! What the text of a proof file comes to that is read in pieces: of what a reader holds that was fed some of it, and of
-//! any bytes that may follow. Each law is the contract of a function that does nothing.
+//! What the text of a proof file comes to that is read in pieces: of what a reader holds that was fed some of it, and
+//! of any bytes that may follow. Each law is the contract of a function that does nothing.
 #![tactic(auto)]
 
 mod adding;
@@ -16,7 +16,8 @@ mod passing;
 mod reader;
 mod stretch;
 
-ghost use Rattle.std.specs.Prelude.{◌≡◌, ◌++◌, ◌∷◌, [], true, false, suc, length, map, List, ℕ, Bool, None, Some, Result, Ok, Err};
+ghost use Rattle.std.specs.Prelude.{◌≡◌, ◌++◌, ◌∷◌, [], true, false, suc, length, map, List, ℕ, Bool, None, Some};
+ghost use Rattle.std.specs.Prelude.{Result, Ok, Err};
 ghost use Rattle.std.specs.Str.{chars};
 ghost use Rattle.std.proofs.Common.{inl, inr};
 ghost use Rattle.cyc_lex.specs.declared.fault.ReadFault.{ReadFault};
@@ -32,12 +33,13 @@ ghost use Rattle.piecewise_lex.specs.Taking.{reading, tokens_in};
 ghost use Rattle.heap_syntax.specs.declared.version.Version.{Version};
 ghost use Rattle.proof_syntax.specs.Trees.{Definition, Line, Node, File};
 ghost use Rattle.proof_syntax.specs.Grammar.{file};
-ghost use Rattle.proof_statements.specs.Left.{Part, At, First, Left, Statement, statement_of, next, join};
-ghost use Rattle.proof_statements.specs.Left.{Nodes as Among};
+ghost use Rattle.proof_syntax.specs.Left.{Part, At, First, Left, Statement, statement_of, next, join};
+ghost use Rattle.proof_syntax.specs.Left.{Nodes as Among};
 ghost use Rattle.proof_file.specs.declared.file.ProofFile.{ProofFile};
 ghost use Rattle.proof_file.specs.Reading.{IsRead, Reads};
 ghost use Rattle.file_reader.specs.Outcomes.{syntax_fault, settled};
-ghost use Rattle.file_reader.specs.Stages.{Begun, Stage, Head, Nodes, Dead, Unlexed, Parts, fresh, ahead, said_with, outcome, FileFrom};
+ghost use Rattle.file_reader.specs.Stages.{Begun, Stage, Head, Nodes, Dead, Unlexed, Parts, fresh, ahead, said_with};
+ghost use Rattle.file_reader.specs.Stages.{outcome, FileFrom};
 ghost use Rattle.file_reader.specs.Steps.{Takes, Leads, Spell, begun_of, span_of, with_node, with_end};
 ghost use Rattle.file_reader.specs.Pieces.{Tells, AreFed, bytes_of, parts, IsOpen, Comes, IsBad};
 
@@ -52,8 +54,8 @@ pub fn fresh_readers_read_the_text()
         → FileFrom fresh bytes answer }
 {}
 
-/// A text that is fed in pieces is answered as the joined text is read: where each call keeps what the text comes to, or
-/// knows that memory ran out, and the last answer is what it comes to with no more bytes.
+/// A text that is fed in pieces is answered as the joined text is read: where each call keeps what the text comes to,
+/// or knows that memory ran out, and the last answer is what it comes to with no more bytes.
 pub fn pieces_are_read_as_one_text()
     ensures { (pieces : List (List ℕ)) (new : Parts) (answer : Result ProofFile ReadFault) → AreFed fresh pieces new
         → Tells (outcome new []) answer → Reads (bytes_of pieces) answer }
@@ -73,8 +75,9 @@ pub fn tokens_may_be_taken()
         → new.stage ≡ Unlexed (fault_of bad p) → (rest : List ℕ) → outcome old rest ≡ outcome new rest }
 {}
 
-/// What `take_statement` takes of a text, after which bytes stand that make no character yet, stands at the front of what
-/// waits; and the bad place that it finds, or `first_bad` where no bytes can make a character, is the first whatever comes.
+/// What `take_statement` takes of a text, after which bytes stand that make no character yet, stands at the front of
+/// what waits; and the bad place that it finds, or `first_bad` where no bytes can make a character, is the first
+/// whatever comes.
 pub fn statements_stand_at_the_front()
     ensures taken { (stage after : Stage) (p q : Place) (c d : Bool) (text rest tail : List ℕ) (ts : List Placed)
         → ((more : List ℕ) → tokens_from p c (text ++ more) ≡ with_tokens ts (tokens_from q d (rest ++ more)))

@@ -5,35 +5,35 @@ ghost use Rattle.cyc_lex.specs.Lexing.{HasRoom};
 ghost use Rattle.cyc_lex.specs.Placed.{placed};
 ghost use Rattle.cyc_lex.specs.Word.{word_of};
 ghost use Rattle.cyc_grammar.specs.Classes.{are_tokens};
-ghost use Rattle.proof_statements.specs.Left.{Nodes, kept_statement};
-ghost use Rattle.proof_statements.specs.Trees.{node_or_end_of};
+ghost use Rattle.proof_syntax.specs.Left.{Nodes, kept_statement};
+ghost use Rattle.proof_syntax.specs.StatementTrees.{node_or_end_of};
 ghost use Rattle.file_reader.specs.Fronts.{kept};
 ghost use Rattle.file_reader.specs.Stretches.{IsStretch, tokens_of};
 ghost use Rattle.file_reader.specs.Knowns.{IsHeads, IsSteady};
 ghost use Rattle.file_reader.specs.Runs.{IsRefused, IsStep, Runs};
 
 use crate::adding::add_statement;
-use crate::known::{Found, Known};
+use crate::known::{Found, KnownFront};
 use crate::part::KEPT;
 use crate::stretch::Stretch;
 use cyc_grammar::{Cursor, Refusal};
 use cyc_lex::{OutOfMemory, Place, ReadFault, Stop};
 use heap_reader::Heads;
 use piecewise_lex::take_statement;
-use proof_statements::{NodeOrEnd, kept_node_or_end};
+use proof_syntax::statements::{NodeOrEnd, kept_node_or_end};
 use std::alloc::Global;
 
-/// What the tokens of one statement come to: it was taken; the first dead one of them has so many to the end; or they may
-/// go on.
+/// What the tokens of one statement come to: it was taken; the first dead one of them has so many to the end; or they
+/// may go on.
 #[derive(Clone, Copy)]
-pub enum Step {
+pub enum NodeStep {
     Taken,
     Dead(usize),
     Open,
 }
 
-/// What was read of a text: the syntax fault, if one came; the place after the statements that were taken, whether a comment
-/// goes on there, and the text that is left.
+/// What was read of a text: the syntax fault, if one came; the place after the statements that were taken, whether a
+/// comment goes on there, and the text that is left.
 #[derive(Clone, Copy)]
 pub struct Ran<'a> {
     pub dead: Option<ReadFault>,
@@ -43,15 +43,15 @@ pub struct Ran<'a> {
 }
 
 /// What tokens come to that are refused: words that run out may go on.
-fn refused(refusal: Refusal) -> Result<Step, OutOfMemory>
+fn refused(refusal: Refusal) -> Result<NodeStep, OutOfMemory>
     ensures { IfOk result (IsRefused refusal) }
 {
     match refusal {
         Refusal::Dead(left) => {
             if left > 0 {
-                return Ok(Step::Dead(left));
+                return Ok(NodeStep::Dead(left));
             }
-            Ok(Step::Open)
+            Ok(NodeStep::Open)
         }
         Refusal::OutOfMemory => Err(OutOfMemory),
     }
@@ -60,13 +60,13 @@ fn refused(refusal: Refusal) -> Result<Step, OutOfMemory>
 /// Takes a statement that was read of these tokens up to the cursor, if none is left.
 fn take_whole(
     alloc: Global,
-    known: &Known,
+    known: &KnownFront,
     heads: &Heads<'_>,
     stretch: Stretch<'_>,
     statement: &NodeOrEnd<'_>,
     cursor: &Cursor<'_, '_>,
     found: &mut Found,
-) -> Result<Step, OutOfMemory>
+) -> Result<NodeStep, OutOfMemory>
     requires stretch { IsStretch stretch }
     requires heads { IsHeads known.now heads.now }
     requires steady { IsSteady known.now found.old }
@@ -77,21 +77,21 @@ fn take_whole(
     ensures { IfOk result (IsStep known.now (tokens_of stretch.entry) found.old found.new) }
 {
     if cursor.left() > 0 {
-        return Ok(Step::Open);
+        return Ok(NodeStep::Open);
     }
     add_statement(alloc, known, heads, stretch, statement, cursor, found)?;
-    Ok(Step::Taken)
+    Ok(NodeStep::Taken)
 }
 
 /// Takes a node, or the last statement.
 fn take_node(
     alloc: Global,
-    known: &Known,
+    known: &KnownFront,
     heads: &Heads<'_>,
     stretch: Stretch<'_>,
     cursor: Cursor<'_, '_>,
     found: &mut Found,
-) -> Result<Step, OutOfMemory>
+) -> Result<NodeStep, OutOfMemory>
     requires stretch { IsStretch stretch }
     requires heads { IsHeads known.now heads.now }
     requires steady { IsSteady known.now found.old }
@@ -114,12 +114,12 @@ fn take_node(
 /// Takes a statement; after the last one none comes.
 fn take_step(
     alloc: Global,
-    known: &Known,
+    known: &KnownFront,
     heads: &Heads<'_>,
     stretch: Stretch<'_>,
     cursor: Cursor<'_, '_>,
     found: &mut Found,
-) -> Result<Step, OutOfMemory>
+) -> Result<NodeStep, OutOfMemory>
     requires stretch { IsStretch stretch }
     requires heads { IsHeads known.now heads.now }
     requires steady { IsSteady known.now found.old }
@@ -132,16 +132,16 @@ fn take_step(
     }
     let mut cursor = cursor;
     match cursor.end() {
-        Ok(()) => Ok(Step::Open),
+        Ok(()) => Ok(NodeStep::Open),
         Err(refusal) => refused(refusal),
     }
 }
 
-/// Reads the statements at the front of a text from the first node on, which stands at a place, where a comment goes on or
-/// none does. What is no whole statement yet is left.
+/// Reads the statements at the front of a text from the first node on, which stands at a place, where a comment goes on
+/// or none does. What is no whole statement yet is left.
 pub fn read_nodes<'a>(
     alloc: Global,
-    known: &Known,
+    known: &KnownFront,
     heads: &Heads<'_>,
     place: Place,
     comment: bool,
@@ -169,7 +169,7 @@ pub fn read_nodes<'a>(
         };
         let cursor = stretch.cursor_over(&tokens);
         match take_step(alloc, known, heads, stretch, cursor, found)? {
-            Step::Open => {
+            NodeStep::Open => {
                 return Ok(Ran {
                     dead: None,
                     place,
@@ -177,7 +177,7 @@ pub fn read_nodes<'a>(
                     rest,
                 });
             }
-            Step::Dead(left) => {
+            NodeStep::Dead(left) => {
                 return Ok(Ran {
                     dead: Some(stretch.dead(left)),
                     place: span.place,
@@ -185,7 +185,7 @@ pub fn read_nodes<'a>(
                     rest: span.rest,
                 });
             }
-            Step::Taken => {
+            NodeStep::Taken => {
                 place = span.place;
                 comment = span.comment;
                 rest = span.rest;

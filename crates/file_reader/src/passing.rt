@@ -15,8 +15,8 @@ pub struct Passed<'a> {
     pub rest: &'a str,
 }
 
-/// Passes over the tokens of a text that stands at a place, where a comment goes on or none does, but for what waits at its
-/// end. It takes no memory.
+/// Passes over the tokens of a text that stands at a place, where a comment goes on or none does, but for what waits at
+/// its end. It takes no memory.
 pub fn pass_tokens(place: Place, comment: bool, text: &str) -> Result<Passed<'_>, Stop>
     requires { HasRoom place (length text.now) }
     ensures { Passes place comment text.now result }

@@ -14,8 +14,8 @@ use std::alloc::Global;
 use std::marker::Model;
 use std::mem;
 
-/// A reader of a proof file that is fed the text in pieces, of fewer than 4,294,967,295 bytes in all, and answers at its end
-/// what the text comes to. A contract sees what the text comes to with any bytes that may follow.
+/// A reader of a proof file that is fed the text in pieces, of fewer than 4,294,967,295 bytes in all, and answers at
+/// its end what the text comes to. A contract sees what the text comes to with any bytes that may follow.
 #[derive(Drop)]
 pub struct FileReader {
     alloc: Global,

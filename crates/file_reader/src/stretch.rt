@@ -11,8 +11,8 @@ use cyc_grammar::Cursor;
 use cyc_lex::{Place, ReadFault, Token, token_at};
 use heap_reader::Flaw;
 
-/// So many of the first tokens of a text that stands at a place, where a comment goes on or none does; `before` others stand
-/// before them. No token is held: each is cut off the text again when it is asked for.
+/// So many of the first tokens of a text that stands at a place, where a comment goes on or none does; `before` others
+/// stand before them. No token is held: each is cut off the text again when it is asked for.
 #[derive(Clone, Copy)]
 pub struct Stretch<'a> {
     pub before: u32,
@@ -58,8 +58,8 @@ impl<'a> Stretch<'a> {
             .fault_at(flaw.token as u32, place.line, place.column)
     }
 
-    /// The syntax fault of a text where so many of the tokens are left from the first dead one on; where none is left, no line
-    /// tells the place.
+    /// The syntax fault of a text where so many of the tokens are left from the first dead one on; where none is left,
+    /// no line tells the place.
     pub fn dead(self, left: usize) -> ReadFault
         requires stretch { IsStretch self }
         requires within { left ≤ self.count }

@@ -5,14 +5,18 @@ use Rattle.heap_reader.specs.Trees.{Heading}
 use Rattle.fo_formula.specs.Words as words
 use Rattle.fo_formula.specs.Words.{Word, after_first}
 use Rattle.fo_formula.proofs.Reading.{first_split}
-use Rattle.fo_term_syntax.specs.Trees.{Variable, Local, Apply, Atom, Equation, Predicate}
-use Rattle.fo_problem_syntax.specs.Trees.{Definition, Sequent, Problem}
-use Rattle.fo_proof_syntax.specs.Trees.{Reason, Axiom, Refl, Clash, Decompose, Replace, WeakenLeft, WeakenRight, Contract, Unfold, Cut, Right, Link, Node, File}
-use Rattle.fo_values.specs.Values.{first_terms, term_value, atom_value, atoms_value, sequent_value, definition_value, reason_value, node_value, file_value, problem_value}
-use Rattle.fo_values.specs.Known.{IsKnownAtom, AreKnownAtoms, IsKnownSequent, IsKnownDefinition, IsKnownReason, IsKnownNode, IsKnownFile, IsKnownProblem}
-use Rattle.fo_values.proofs.TreesAgain.{terms-value}
-use Rattle.fo_file.specs.OfTerms.{IsAtomOfTerms, AreAtomsOfTerms, IsSequentOfTerms, IsDefinitionOfTerms, IsReasonOfTerms, IsNodeOfTerms, IsFileOfTerms, IsProblemOfTerms}
-use Rattle.formula_facts.proofs.AllMembers.{each_made}
+use Rattle.fo_syntax.specs.Trees.{Variable, Local, Apply, Atom, Equation, Predicate}
+use Rattle.fo_syntax.specs.ProblemTrees.{Definition, Sequent, Problem}
+use Rattle.fo_syntax.specs.ProofTrees.{Reason, Axiom, Refl, Clash, Decompose, Replace, WeakenLeft, WeakenRight}
+use Rattle.fo_syntax.specs.ProofTrees.{Contract, Unfold, Cut, Right, Link, Node, File}
+use Rattle.fo_file.specs.Values.{first_terms, term_value, atom_value, atoms_value, sequent_value, definition_value}
+use Rattle.fo_file.specs.Values.{reason_value, node_value, file_value, problem_value}
+use Rattle.fo_file.specs.Known.{IsKnownAtom, AreKnownAtoms, IsKnownSequent, IsKnownDefinition, IsKnownReason}
+use Rattle.fo_file.specs.Known.{IsKnownNode, IsKnownFile, IsKnownProblem}
+use Rattle.fo_file.proofs.TreesAgain.{terms-value}
+use Rattle.fo_file.specs.OfTerms.{IsAtomOfTerms, AreAtomsOfTerms, IsSequentOfTerms, IsDefinitionOfTerms}
+use Rattle.fo_file.specs.OfTerms.{IsReasonOfTerms, IsNodeOfTerms, IsFileOfTerms, IsProblemOfTerms}
+use Rattle.heap_formula.proofs.AllMembers.{each_made}
 
 first-are-terms : (n : ℕ) (w : Word) → words.AreTerms n w → Each words.IsTerm (first_terms n w)
 first-are-terms zero w are = tt
@@ -34,9 +38,11 @@ module _ (cs ps : List Heading) where
   sequent-of-terms s k = (atoms-of-terms s.left k.0, atoms-of-terms s.right k.1)
 
   definition-of-terms : (d : Definition) → IsKnownDefinition cs ps d → IsDefinitionOfTerms (definition_value cs ps d)
-  definition-of-terms d k = each_made (atoms_value cs ps) (AreKnownAtoms cs ps) AreAtomsOfTerms atoms-of-terms d.cases k.1
+  definition-of-terms d k = each_made (atoms_value cs ps) (AreKnownAtoms cs ps)
+      AreAtomsOfTerms atoms-of-terms d.cases k.1
 
-  definitions-of-terms : (ds : List Definition) → Each (IsKnownDefinition cs ps) ds → Each IsDefinitionOfTerms (map (definition_value cs ps) ds)
+  definitions-of-terms : (ds : List Definition) → Each (IsKnownDefinition cs ps) ds
+      → Each IsDefinitionOfTerms (map (definition_value cs ps) ds)
   definitions-of-terms ds k =
       each_made (definition_value cs ps) (IsKnownDefinition cs ps) IsDefinitionOfTerms definition-of-terms ds k
 
@@ -58,7 +64,10 @@ module _ (cs ps : List Heading) where
   node-of-terms n k = (sequent-of-terms n.sequent k.0, reason-of-terms n.reason k.1)
 
   pub file-of-terms : (f : File) → IsKnownFile cs ps f → IsFileOfTerms (file_value cs ps f)
-  file-of-terms f k = (definitions-of-terms f.definitions k.0.1, each_made (node_value cs ps) (IsKnownNode cs ps) IsNodeOfTerms node-of-terms f.nodes k.1)
+  file-of-terms f k = (
+    definitions-of-terms f.definitions k.0.1,
+    each_made (node_value cs ps) (IsKnownNode cs ps) IsNodeOfTerms node-of-terms f.nodes k.1,
+  )
 
   pub problem-of-terms : (p : Problem) → IsKnownProblem cs ps p → IsProblemOfTerms (problem_value cs ps p)
   problem-of-terms p k = (definitions-of-terms p.definitions k.0.1, sequent-of-terms p.goal k.1)

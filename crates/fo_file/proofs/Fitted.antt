@@ -3,15 +3,17 @@ use Rattle.std.proofs.Common.{◌<◌, Bool, false, List, [], ◌∷◌, length,
 use Rattle.heap_formula.specs.Words.{Each}
 use Rattle.cyc_grammar.specs.Syntax.{Class, after}
 use Rattle.heap_syntax.specs.Words.{comma}
-use Rattle.fo_term_syntax.specs.Trees.{Sign, Atom}
-use Rattle.fo_term_syntax.specs.Grammar.{term, atom}
-use Rattle.fo_problem_syntax.specs.Trees.{Definition, Problem}
-use Rattle.fo_problem_syntax.specs.Grammar.{atoms, atoms_or, constructors, definition, definitions, sequent, goal, problem_body, problem}
-use Rattle.fo_proof_syntax.specs.Trees.{Entry, Node, File}
-use Rattle.fo_proof_syntax.specs.Grammar.{terms, entry, entries, node, nodes, body, file}
+use Rattle.fo_syntax.specs.Trees.{Sign, Atom}
+use Rattle.fo_syntax.specs.Grammar.{term, atom}
+use Rattle.fo_syntax.specs.ProblemTrees.{Definition, Problem}
+use Rattle.fo_syntax.specs.ProblemGrammar.{atoms, atoms_or, constructors, definition, definitions, sequent, goal}
+use Rattle.fo_syntax.specs.ProblemGrammar.{problem_body, problem}
+use Rattle.fo_syntax.specs.ProofTrees.{Entry, Node, File}
+use Rattle.fo_syntax.specs.ProofGrammar.{terms, entry, entries, node, nodes, body, file}
 use Rattle.heap_reader.proofs.Members.{many_fit}
 
-pub sides-fit : (none : Class (Unit {0})) (b : Bool) (xs : List Atom) → (atoms_or none b).fits xs → Each (atom b).fits xs
+pub sides-fit : (none : Class (Unit {0})) (b : Bool) (xs : List Atom) → (atoms_or none b).fits xs
+    → Each (atom b).fits xs
 unfolding atoms_or atoms
 sides-fit none b [] f = tt
 sides-fit none b (a ∷ more) f = many_fit (after comma (atom b)) (a ∷ more) f.1.1

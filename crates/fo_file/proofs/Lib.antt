@@ -1,3 +1,12 @@
+pub mod NextNinth
+pub mod Walks
+pub mod Counts
+pub mod Parsed
+pub mod SpanLaws
+pub mod WithinSpans
+pub mod Adjacent
+pub mod Names
+pub mod TreesAgain
 pub mod Lists
 pub mod Fitted
 pub mod Flawless

@@ -1,5 +1,6 @@
 -- The trees of terms and of arguments: so many terms, of so many signs.
-use Rattle.std.proofs.Common.{◌≡◌, ℕ, zero, suc, ◌+◌, List, [], ◌∷◌, ◌++◌, length, map, refl, sym, ap, ◌∙◌, subst, arith, length-append}
+use Rattle.std.proofs.Common.{◌≡◌, ℕ, zero, suc, ◌+◌, List, [], ◌∷◌, ◌++◌, length, map, refl, sym, ap, ◌∙◌, subst}
+use Rattle.std.proofs.Common.{arith, length-append}
 use Rattle.std.specs.List.{flat_map}
 use Rattle.std.proofs.lemmas.List.{length-map, map-append}
 use Rattle.std.proofs.lemmas.List.Sums.{sum_by-cons}
@@ -14,12 +15,12 @@ use Rattle.fo_formula.specs.Sizes.{words_size, atom_size, atoms_size, sequent_si
 use Rattle.fo_formula.specs.Words as words
 use Rattle.fo_formula.specs.Words.{Word, arity}
 use Rattle.fo_formula.proofs.Replacing.{term_keeps}
-use Rattle.fo_limits.specs.Limits.{IsTermOf}
-use Rattle.fo_term_syntax.specs.Trees.{Sign, arguments_of, AreTerms}
-use Rattle.fo_walk.specs.AtomSpans.{terms_in, total_terms}
-use Rattle.fo_walk.specs.Spans.{sequent_terms}
-use Rattle.fo_values.specs.Written.{sign_tree, term_tree, atom_tree, atoms_tree, sequent_tree}
-use Rattle.formula_facts.proofs.AllMembers.{each_append}
+use Rattle.fo_logic.specs.Limits.{IsTermOf}
+use Rattle.fo_syntax.specs.Trees.{Sign, arguments_of, AreTerms}
+use Rattle.fo_file.specs.AtomSpans.{terms_in, total_terms}
+use Rattle.fo_file.specs.Spans.{sequent_terms}
+use Rattle.fo_file.specs.Written.{sign_tree, term_tree, atom_tree, atoms_tree, sequent_tree}
+use Rattle.heap_formula.proofs.AllMembers.{each_append}
 
 -- ---- the arguments of a predicate as one word
 

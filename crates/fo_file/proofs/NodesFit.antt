@@ -16,19 +16,22 @@ use Rattle.fo_formula.specs.declared.sequents.FoSequent.{FoSequent}
 use Rattle.fo_formula.specs.declared.theory.FoTheory.{FoTheory}
 use Rattle.fo_formula.specs.Values.{IsConstructor}
 use Rattle.fo_formula.specs.Words.{Word}
-use Rattle.fo_limits.specs.Limits.{IsSignWithin, IsTermWithin, TakesArguments, IsAtomWithin, HasAtomsWithin, IsPairWithin, IsReasonWithin, IsNumberWithin, numbers_of, IsNodeWithin}
-use Rattle.fo_term_syntax.specs.Steps.{option}
-use Rattle.fo_term_syntax.specs.Words.{false_word, free_name}
-use Rattle.fo_term_syntax.specs.Trees.{Sign, Apply, Atom, Equation, Predicate}
-use Rattle.fo_term_syntax.specs.Fits.{FitsSign, FitSigns}
-use Rattle.fo_term_syntax.specs.Grammar.{leaf, application, term, from_term, equated, atom}
-use Rattle.fo_term_syntax.proofs.TermFits.{application-fits, term-fits}
-use Rattle.fo_problem_syntax.specs.Grammar.{atoms, atoms_or, sequent}
-use Rattle.fo_proof_syntax.specs.Trees.{Entry, Node}
-use Rattle.fo_proof_syntax.specs.Grammar.{numbers, bracketed, two_numbers, replace, terms, right_rule, entry, entries, link, parts, reason, premises, node, nodes}
-use Rattle.fo_values.specs.Written.{constructor_name, predicate_name, sign_tree, term_tree, atom_tree, atoms_tree, sequent_tree, entry_tree, reason_tree, node_tree}
+use Rattle.fo_logic.specs.Limits.{IsSignWithin, IsTermWithin, TakesArguments, IsAtomWithin, HasAtomsWithin}
+use Rattle.fo_logic.specs.Limits.{IsPairWithin, IsReasonWithin, IsNumberWithin, numbers_of, IsNodeWithin}
+use Rattle.fo_syntax.specs.Steps.{option}
+use Rattle.fo_syntax.specs.Words.{false_word, free_name}
+use Rattle.fo_syntax.specs.Trees.{Sign, Apply, Atom, Equation, Predicate}
+use Rattle.fo_syntax.specs.Fits.{FitsSign, FitSigns}
+use Rattle.fo_syntax.specs.Grammar.{leaf, application, term, from_term, equated, atom}
+use Rattle.fo_syntax.proofs.TermFits.{application-fits, term-fits}
+use Rattle.fo_syntax.specs.ProblemGrammar.{atoms, atoms_or, sequent}
+use Rattle.fo_syntax.specs.ProofTrees.{Entry, Node}
+use Rattle.fo_syntax.specs.ProofGrammar.{numbers, bracketed, two_numbers, replace, terms, right_rule, entry, entries}
+use Rattle.fo_syntax.specs.ProofGrammar.{link, parts, reason, premises, node, nodes}
+use Rattle.fo_file.specs.Written.{constructor_name, predicate_name, sign_tree, term_tree, atom_tree, atoms_tree}
+use Rattle.fo_file.specs.Written.{sequent_tree, entry_tree, reason_tree, node_tree}
 use Rattle.fo_file.proofs.NodeTrees.{joined, joined-terms, joined-signs, are-terms, terms-tree, joined-tree}
-use Rattle.formula_facts.proofs.AllMembers.{each_made}
+use Rattle.heap_formula.proofs.AllMembers.{each_made}
 
 -- ---- parts that fit make what fits
 
@@ -95,7 +98,8 @@ each-behind (x ∷ xs) ys h = each-behind xs ys h.1
 
 -- ---- terms and atoms
 
-module _ (t : FoTheory) (constructors : (c k : ℕ) → IsConstructor t.constructors c k → free_name.fits (constructor_name t c)) where
+module _ (t : FoTheory) (constructors : (c k : ℕ) → IsConstructor t.constructors c k
+    → free_name.fits (constructor_name t c)) where
   sign-fits : (s : SignValue) → IsSignWithin t s → FitsSign false (sign_tree t s)
   sign-fits (signs.Universal n) h = omega arith
   sign-fits (signs.Local n) h = absurd h
@@ -120,8 +124,10 @@ module _ (t : FoTheory) (constructors : (c k : ℕ) → IsConstructor t.construc
         let name = predicate_name t p in
         let is = terms-tree t (length ts) (joined ts) (joined-terms ts (are-terms (IsSignWithin t) ts h.1)) in
         let signs = signs-fit (joined ts) (joined-signs (IsSignWithin t) ts h.1) in
-        let fit = application-fits false name (length ts) (term_tree t (joined ts)) is (predicates p (length ts) h.0, signs) in
-        subst (λ (ss : List Sign). (atom false).fits (Predicate (Apply name (length ts) ∷ ss))) (sym (joined-tree t ts)) (use-fits false (Apply name (length ts) ∷ term_tree t (joined ts)) fit)
+        let fit = application-fits false name (length ts) (term_tree t (joined ts)) is
+        (predicates p (length ts) h.0, signs) in
+        subst (λ (ss : List Sign). (atom false).fits (Predicate (Apply name (length ts) ∷ ss))) (sym (joined-tree t ts))
+        (use-fits false (Apply name (length ts) ∷ term_tree t (joined ts)) fit)
 
     side-fits : (xs : List FoAtom) → Each (IsAtomWithin t) xs → Each (atom false).fits (atoms_tree t xs)
     side-fits xs h = each_made (atom_tree t) (IsAtomWithin t) (atom false).fits atom-fits xs h
@@ -130,7 +136,13 @@ module _ (t : FoTheory) (constructors : (c k : ℕ) → IsConstructor t.construc
 
     sequent-fits : (s : FoSequent) → HasAtomsWithin t s → sequent.fits (sequent_tree t s)
     unfolding sequent
-    sequent-fits s h = (tt, (atoms-fit true_word false tt (atoms_tree t s.left) (side-fits s.left h.0), atoms-fit false_word false tt (atoms_tree t s.right) (side-fits s.right h.1)))
+    sequent-fits s h = (
+      tt,
+      (
+        atoms-fit true_word false tt (atoms_tree t s.left) (side-fits s.left h.0),
+        atoms-fit false_word false tt (atoms_tree t s.right) (side-fits s.right h.1),
+      ),
+    )
 
     reason-fits : (r : FoReason) → IsReasonWithin t r → Each IsNumberWithin (numbers_of r)
         → reason.fits (reason_tree t r)
@@ -156,4 +168,10 @@ module _ (t : FoTheory) (constructors : (c k : ℕ) → IsConstructor t.construc
 
     pub node-fits : (n : FoNode) → IsNodeWithin t n → node.fits (node_tree t n)
     unfolding node
-    node-fits n h = (tt, (sequent-fits n.judgement h.sequent.1, (reason-fits n.reason h.reason h.numbers, premises-fit n.premises h.premises)))
+    node-fits n h = (
+      tt,
+      (
+        sequent-fits n.judgement h.sequent.1,
+        (reason-fits n.reason h.reason h.numbers, premises-fit n.premises h.premises),
+      ),
+    )

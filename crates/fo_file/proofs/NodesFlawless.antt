@@ -1,5 +1,6 @@
 -- The trees of nodes within the limits have no flaw, where names are known.
-use Rattle.std.proofs.Common.{◌≡◌, ℕ, zero, suc, ◌+◌, ◌<◌, ◌≤◌, List, [], ◌∷◌, length, map, drop, Option, Some, None, refl, sym, ap, ◌∙◌, subst, arith}
+use Rattle.std.proofs.Common.{◌≡◌, ℕ, zero, suc, ◌+◌, ◌<◌, ◌≤◌, List, [], ◌∷◌, length, map, drop, Option, Some, None}
+use Rattle.std.proofs.Common.{refl, sym, ap, ◌∙◌, subst, arith}
 use Rattle.std.specs.Prelude.{nat_le, not}
 use Rattle.std.specs.List.{range_with_len}
 use Rattle.std.proofs.lemmas.Bool.{eq-eqb, le-ltb, lt-leb}
@@ -24,19 +25,23 @@ use Rattle.fo_formula.specs.declared.theory.FoTheory.{FoTheory}
 use Rattle.fo_formula.specs.Sizes.{words_size, atom_size, atoms_size, reason_size}
 use Rattle.fo_formula.specs.Values.{IsConstructor}
 use Rattle.fo_formula.specs.Words.{Word}
-use Rattle.fo_limits.specs.Limits.{IsSignWithin, IsTermWithin, TakesArguments, IsAtomWithin, IsSequentWithin, IsPairWithin, IsReasonWithin, IsNodeWithin}
-use Rattle.fo_term_syntax.specs.Trees.{Sign, Apply, arguments_of}
-use Rattle.fo_term_syntax.specs.Places.{places_of, tokens_in}
-use Rattle.fo_walk.specs.declared.flaw.Scope.TheVariants.{Node as InNode}
-use Rattle.fo_walk.specs.AtomSpans.{atom_span, atoms_span, terms_in, total_terms}
-use Rattle.fo_walk.specs.Arguments.{numbers, numbers_behind, argument_flaw}
-use Rattle.fo_walk.specs.AtomFlaws.{variable_flaw, terms_flaw as term_limit, sign_flaw, signs_flaw, term_flaw, predicate_flaw, atom_flaw, atoms_flaw, side_flaw}
-use Rattle.fo_walk.specs.Spans.{term_span, entry_span, sequent_span, sequent_terms, node_span}
-use Rattle.fo_walk.specs.Flaws.{terms_flaw, entry_flaw, entries_flaw, sequent_flaw, reason_flaw, node_flaw}
-use Rattle.fo_values.specs.Written.{constructor_name, predicate_name, sign_tree, term_tree, atom_tree, atoms_tree, sequent_tree, entry_tree, reason_tree, node_tree}
-use Rattle.formula_facts.proofs.AllMembers.{each_append}
+use Rattle.fo_logic.specs.Limits.{IsSignWithin, IsTermWithin, TakesArguments, IsAtomWithin, IsSequentWithin}
+use Rattle.fo_logic.specs.Limits.{IsPairWithin, IsReasonWithin, IsNodeWithin}
+use Rattle.fo_syntax.specs.Trees.{Sign, Apply, arguments_of}
+use Rattle.fo_syntax.specs.Places.{places_of, tokens_in}
+use Rattle.fo_file.specs.declared.walk.flaw.Scope.TheVariants.{Node as InNode}
+use Rattle.fo_file.specs.AtomSpans.{atom_span, atoms_span, terms_in, total_terms}
+use Rattle.fo_file.specs.Arguments.{numbers, numbers_behind, argument_flaw}
+use Rattle.fo_file.specs.AtomFlaws.{variable_flaw, terms_flaw as term_limit, sign_flaw, signs_flaw, term_flaw}
+use Rattle.fo_file.specs.AtomFlaws.{predicate_flaw, atom_flaw, atoms_flaw, side_flaw}
+use Rattle.fo_file.specs.Spans.{term_span, entry_span, sequent_span, sequent_terms, node_span}
+use Rattle.fo_file.specs.Flaws.{terms_flaw, entry_flaw, entries_flaw, sequent_flaw, reason_flaw, node_flaw}
+use Rattle.fo_file.specs.Written.{constructor_name, predicate_name, sign_tree, term_tree, atom_tree, atoms_tree}
+use Rattle.fo_file.specs.Written.{sequent_tree, entry_tree, reason_tree, node_tree}
+use Rattle.heap_formula.proofs.AllMembers.{each_append}
 use Rattle.fo_file.proofs.Flawless.{HasFewArguments, arity-few}
-use Rattle.fo_file.proofs.NodeTrees.{joined, joined-signs, joined-length, joined-tree, atom-terms, atoms-terms, sequent-terms}
+use Rattle.fo_file.proofs.NodeTrees.{joined, joined-signs, joined-length, joined-tree, atom-terms, atoms-terms}
+use Rattle.fo_file.proofs.NodeTrees.{sequent-terms}
 
 -- ---- names and limits
 
@@ -72,7 +77,8 @@ early-rest (n ∷ ns) h = h.1
 
 early-behind : (s : Sign) (ns : List ℕ) → arguments_of s ≤ 8 → Each IsEarly ns → Each IsEarly (numbers_behind s ns)
 early-behind s ns few h =
-    each_append IsEarly (numbers (arguments_of s)) (drop 1 ns) (early-numbers 0 (arguments_of s) (omega arith)) (early-rest ns h)
+    each_append IsEarly (numbers (arguments_of s)) (drop 1 ns) (early-numbers 0 (arguments_of s) (omega arith))
+    (early-rest ns h)
 
 argument-right : (ns : List ℕ) (k : ℕ) → Each IsEarly ns → argument_flaw ns k ≡ None
 argument-right [] k h = refl
@@ -80,7 +86,8 @@ argument-right (n ∷ ns) k h = ap (λ b. over_if b Arguments k) (lt-leb 8 n h.0
 
 -- ---- signs and terms
 
-module _ (t : FoTheory) (cs : List Heading) (constructors : (c k : ℕ) → IsConstructor t.constructors c k → arity_in cs (constructor_name t c) ≡ Some k) (few_cs : Each HasFewArguments cs) where
+module _ (t : FoTheory) (cs : List Heading) (constructors : (c k : ℕ) → IsConstructor t.constructors c k
+    → arity_in cs (constructor_name t c) ≡ Some k) (few_cs : Each HasFewArguments cs) where
   few-arguments : (s : SignValue) → IsSignWithin t s → arguments_of (sign_tree t s) ≤ 8
   few-arguments (signs.Universal n) is = omega arith
   few-arguments (signs.Local n) is = absurd is
@@ -89,11 +96,14 @@ module _ (t : FoTheory) (cs : List Heading) (constructors : (c k : ℕ) → IsCo
   sign-right : (m k : ℕ) (limit : Found) (s : SignValue) → limit ≡ None → m < 4096 → IsSignWithin t s
       → sign_flaw cs InNode m k limit (sign_tree t s) ≡ None
   sign-right m k limit (signs.Universal n) e h is =
-      none_later limit _ e (none_later (term_limit m k) (variable_flaw InNode (k + 1) n) (term-room m k h) (variable-right (k + 1) n is))
+      none_later limit _ e (none_later (term_limit m k) (variable_flaw InNode (k + 1) n) (term-room m k h)
+      (variable-right (k + 1) n is))
   sign-right m k limit (signs.Local n) e h is = absurd is
   sign-right m k limit (signs.Constructor c a) e h is =
       let name = constructor_name t c in
-      none_later (use_flaw (arity_in cs name) a k) (or_later limit (term_limit m k)) (use-right (arity_in cs name) a k (constructors c a is)) (none_later limit (term_limit m k) e (term-room m k h))
+      none_later (use_flaw (arity_in cs name) a k) (or_later limit (term_limit m k))
+      (use-right (arity_in cs name) a k (constructors c a is))
+      (none_later limit (term_limit m k) e (term-room m k h))
 
   signs-right : (ns : List ℕ) (m k : ℕ) (limit : Found) (w : Word) (places : List ℕ) → Each IsEarly ns → limit ≡ None
       → m + length w ≤ 4096 → Each (IsSignWithin t) w → signs_flaw cs InNode ns m k limit (term_tree t w) places ≡ None
@@ -103,8 +113,10 @@ module _ (t : FoTheory) (cs : List Heading) (constructors : (c k : ℕ) → IsCo
       let tree = sign_tree t s in
       let here = or_later limit (argument_flaw ns (k + p)) in
       let next = early-behind tree ns (few-arguments s is.0) early in
-      none_later (sign_flaw cs InNode m (k + p) here tree) (signs_flaw cs InNode (numbers_behind tree ns) (m + 1) k None (term_tree t w) places)
-      (sign-right m (k + p) here s (none_later limit (argument_flaw ns (k + p)) e (argument-right ns (k + p) early)) (omega arith) is.0)
+      none_later (sign_flaw cs InNode m (k + p) here tree)
+      (signs_flaw cs InNode (numbers_behind tree ns) (m + 1) k None (term_tree t w) places)
+      (sign-right m (k + p) here s (none_later limit (argument_flaw ns (k + p)) e (argument-right ns (k + p) early))
+      (omega arith) is.0)
       (signs-right (numbers_behind tree ns) (m + 1) k None w places next refl (omega arith) is.1)
 
   term-right : (m k : ℕ) (limit : Found) (w : Word) → limit ≡ None → m + length w ≤ 4096 → IsTermWithin t w
@@ -120,8 +132,10 @@ module _ (t : FoTheory) (cs : List Heading) (constructors : (c k : ℕ) → IsCo
       let tree = term_tree t v in
       let size = length-map v (sign_tree t) in
       let front = sum_by-cons (λ (n : ℕ). n) (length v) (map (λ (u : Word). length u) ts) in
-      none_later (term_flaw cs InNode m k None tree) (terms_flaw cs (m + length tree) (k + term_span tree) (map (term_tree t) ts))
-      (term-right m k None v refl (omega arith) is.0) (terms-right (m + length tree) (k + term_span tree) ts (omega arith) is.1)
+      none_later (term_flaw cs InNode m k None tree)
+      (terms_flaw cs (m + length tree) (k + term_span tree) (map (term_tree t) ts))
+      (term-right m k None v refl (omega arith) is.0)
+      (terms-right (m + length tree) (k + term_span tree) ts (omega arith) is.1)
 
   entry-right : (m k : ℕ) (pair : ℕ × Word) → m + length pair.1 ≤ 4096 → IsPairWithin t pair
       → entry_flaw cs m k (entry_tree t pair) ≡ None
@@ -135,13 +149,17 @@ module _ (t : FoTheory) (cs : List Heading) (constructors : (c k : ℕ) → IsCo
   entries-right m k (e ∷ es) h is =
       let tree = entry_tree t e in
       let size = length-map e.1 (sign_tree t) in
-      let front = sum_by-cons (λ (n : ℕ). n) (length e.1) (map (λ (u : Word). length u) (map (λ (pair : ℕ × Word). pair.1) es)) in
-      none_later (entry_flaw cs m k tree) (entries_flaw cs (m + length tree.value) (k + entry_span tree) (map (entry_tree t) es))
-      (entry-right m k e (omega arith) is.0) (entries-right (m + length tree.value) (k + entry_span tree) es (omega arith) is.1)
+      let front = sum_by-cons (λ (n : ℕ). n) (length e.1)
+      (map (λ (u : Word). length u) (map (λ (pair : ℕ × Word). pair.1) es)) in
+      none_later (entry_flaw cs m k tree) (entries_flaw cs (m + length tree.value) (k + entry_span tree)
+      (map (entry_tree t) es))
+      (entry-right m k e (omega arith) is.0) (entries-right (m + length tree.value) (k + entry_span tree) es
+      (omega arith) is.1)
 
   -- ---- atoms and sequents
 
-  module _ (ps : List Heading) (predicates : (p n : ℕ) → TakesArguments t p n → arity_in ps (predicate_name t p) ≡ Some n) (few_ps : Each HasFewArguments ps) where
+  module _ (ps : List Heading) (predicates : (p n : ℕ) → TakesArguments t p n
+      → arity_in ps (predicate_name t p) ≡ Some n) (few_ps : Each HasFewArguments ps) where
     predicate-right : (m k : ℕ) (limit : Found) (p n : ℕ) (w : Word) → limit ≡ None → m + length w ≤ 4096
         → TakesArguments t p n → Each (IsSignWithin t) w
         → predicate_flaw cs InNode ps m k limit (Apply (predicate_name t p) n ∷ term_tree t w) ≡ None
@@ -149,21 +167,27 @@ module _ (t : FoTheory) (cs : List Heading) (constructors : (c k : ℕ) → IsCo
         let name = predicate_name t p in
         let places = drop 1 (places_of (Apply name n ∷ term_tree t w)) in
         let few = arity-few ps few_ps name n (predicates p n takes) in
-        none_later (use_flaw (arity_in ps name) n k) (or_later limit (signs_flaw cs InNode (numbers n) m k None (term_tree t w) places))
+        none_later (use_flaw (arity_in ps name) n k)
+        (or_later limit (signs_flaw cs InNode (numbers n) m k None (term_tree t w) places))
         (use-right (arity_in ps name) n k (predicates p n takes))
-        (none_later limit (signs_flaw cs InNode (numbers n) m k None (term_tree t w) places) e (signs-right (numbers n) m k None w places (early-numbers 0 n (omega arith)) refl h is))
+        (none_later limit (signs_flaw cs InNode (numbers n) m k None (term_tree t w) places) e
+        (signs-right (numbers n) m k None w places (early-numbers 0 n (omega arith)) refl h is))
 
     atom-right : (m k : ℕ) (limit : Found) (x : FoAtom) → limit ≡ None → m + atom_size x ≤ 4096 → IsAtomWithin t x
         → atom_flaw cs InNode ps m k limit (atom_tree t x) ≡ None
     atom-right m k limit (atoms.Equation l r) e h is =
         let left = term_tree t l in
         let size = length-map l (sign_tree t) in
-        none_later (term_flaw cs InNode m k limit left) (term_flaw cs InNode (m + length left) (k + tokens_in left + 1) None (term_tree t r))
-        (term-right m k limit l e (omega arith) is.0) (term-right (m + length left) (k + tokens_in left + 1) None r refl (omega arith) is.1)
+        none_later (term_flaw cs InNode m k limit left)
+        (term_flaw cs InNode (m + length left) (k + tokens_in left + 1) None (term_tree t r))
+        (term-right m k limit l e (omega arith) is.0)
+        (term-right (m + length left) (k + tokens_in left + 1) None r refl (omega arith) is.1)
     atom-right m k limit (atoms.Predicate p ts) e h is =
         let size = joined-length ts in
-        subst (λ (ss : List Sign). predicate_flaw cs InNode ps m k limit (Apply (predicate_name t p) (length ts) ∷ ss) ≡ None) (sym (joined-tree t ts))
-        (predicate-right m k limit p (length ts) (joined ts) e (omega arith) is.0 (joined-signs (IsSignWithin t) ts is.1))
+        subst (λ (ss : List Sign). predicate_flaw cs InNode ps m k limit (Apply (predicate_name t p) (length ts) ∷ ss)
+        ≡ None) (sym (joined-tree t ts))
+        (predicate-right m k limit p (length ts) (joined ts) e (omega arith) is.0
+        (joined-signs (IsSignWithin t) ts is.1))
 
     atoms-right : (most n m k : ℕ) (limit : Found) (xs : List FoAtom) → limit ≡ None → n + length xs ≤ most
         → m + atoms_size xs ≤ 4096 → Each (IsAtomWithin t) xs
@@ -174,8 +198,10 @@ module _ (t : FoTheory) (cs : List Heading) (constructors : (c k : ℕ) → IsCo
         let here = or_later limit (over_if (nat_le most n) Atoms k) in
         let size = atom-terms t x in
         let front = sum_by-cons (λ (i : ℕ). i) (atom_size x) (map atom_size xs) in
-        none_later (atom_flaw cs InNode ps m k here a) (atoms_flaw cs InNode ps most (n + 1) (m + terms_in a) (k + atom_span a) None (atoms_tree t xs))
-        (atom-right m k here x (none_later limit (over_if (nat_le most n) Atoms k) e (atom-room most n k (omega arith))) (omega arith) is.0)
+        none_later (atom_flaw cs InNode ps m k here a)
+        (atoms_flaw cs InNode ps most (n + 1) (m + terms_in a) (k + atom_span a) None (atoms_tree t xs))
+        (atom-right m k here x (none_later limit (over_if (nat_le most n) Atoms k) e (atom-room most n k (omega arith)))
+        (omega arith) is.0)
         (atoms-right most (n + 1) (m + terms_in a) (k + atom_span a) None xs refl (omega arith) (omega arith) is.1)
 
     side-right : (most m k : ℕ) (limit : Found) (xs : List FoAtom) → limit ≡ None → length xs ≤ most
@@ -189,8 +215,10 @@ module _ (t : FoTheory) (cs : List Heading) (constructors : (c k : ℕ) → IsCo
         let left = atoms_tree t s.left in
         let size = is.0.size in
         let count = atoms-terms t s.left in
-        none_later (side_flaw cs InNode ps 32 0 k None left) (side_flaw cs InNode ps 16 (total_terms left) (k + atoms_span left) None (atoms_tree t s.right))
-        (side-right 32 0 k None s.left refl is.0.left (omega arith) is.1.0) (side-right 16 (total_terms left) (k + atoms_span left) None s.right refl is.0.right (omega arith) is.1.1)
+        none_later (side_flaw cs InNode ps 32 0 k None left)
+        (side_flaw cs InNode ps 16 (total_terms left) (k + atoms_span left) None (atoms_tree t s.right))
+        (side-right 32 0 k None s.left refl is.0.left (omega arith) is.1.0)
+        (side-right 16 (total_terms left) (k + atoms_span left) None s.right refl is.0.right (omega arith) is.1.1)
 
     -- ---- reasons and nodes
 
@@ -217,12 +245,14 @@ module _ (t : FoTheory) (cs : List Heading) (constructors : (c k : ℕ) → IsCo
         let count = sequent-terms t x.judgement in
         let size = is.size in
         none_later (over_if (nat_le 20000 n) Nodes k) (or_later sequent reason) (node-room n k h)
-        (none_later sequent reason (sequent-right (k + 1) x.judgement is.sequent) (reason-right (sequent_terms s) (k + 1 + sequent_span s) x.reason (omega arith) is.reason))
+        (none_later sequent reason (sequent-right (k + 1) x.judgement is.sequent)
+        (reason-right (sequent_terms s) (k + 1 + sequent_span s) x.reason (omega arith) is.reason))
 
     pub nodes-right : (n k : ℕ) (xs : List FoNode) → n + length xs ≤ 20000 → Each (IsNodeWithin t) xs
         → listed_flaw (node_flaw cs ps) node_span n k (map (node_tree t) xs) ≡ None
     nodes-right n k [] h is = refl
     nodes-right n k (x ∷ xs) h is =
         let tree = node_tree t x in
-        none_later (node_flaw cs ps n k tree) (listed_flaw (node_flaw cs ps) node_span (suc n) (k + node_span tree) (map (node_tree t) xs))
+        none_later (node_flaw cs ps n k tree) (listed_flaw (node_flaw cs ps) node_span (suc n) (k + node_span tree)
+        (map (node_tree t) xs))
         (node-right n k x (omega arith) is.0) (nodes-right (suc n) (k + node_span tree) xs (omega arith) is.1)

@@ -1,5 +1,6 @@
 -- Terms outside cases whose names are known are said as terms over the constructors.
-use Rattle.std.proofs.Common.{◌≡◌, ℕ, zero, suc, false, List, [], ◌∷◌, length, map, Some, refl, ap, ◌∙◌, arith, length-append}
+use Rattle.std.proofs.Common.{◌≡◌, ℕ, zero, suc, false, List, [], ◌∷◌, length, map, Some, refl, ap, ◌∙◌, arith}
+use Rattle.std.proofs.Common.{length-append}
 use Rattle.std.proofs.lemmas.List.{length-map, take-append-drop}
 use Rattle.std.proofs.lemmas.List.Sums.{sum_by-cons}
 use Rattle.heap_formula.specs.Words.{Each}
@@ -14,29 +15,33 @@ use Rattle.fo_formula.specs.Values.{IsConstructor}
 use Rattle.fo_formula.specs.Shapes.{IsOpenSign, IsOpenTerm, IsOpenAtom, IsOpenSequent}
 use Rattle.fo_formula.specs.Sizes.{words_size, atom_size, atoms_size, sequent_size}
 use Rattle.fo_formula.proofs.Reading.{first_split}
-use Rattle.fo_table.specs.Soundness.{HasOpenReason}
-use Rattle.fo_term_syntax.specs.Trees.{Sign, Variable, Local, Apply, Atom, Equation, Predicate}
-use Rattle.fo_term_syntax.specs.Fits.{FitsSign, FitSigns}
-use Rattle.fo_term_syntax.specs.Grammar.{term, atom}
-use Rattle.fo_term_syntax.proofs.TermFits.{term-signs}
-use Rattle.fo_term_syntax.proofs.AtomTexts.{sides, alone}
+use Rattle.fo_formula.specs.Soundness.{HasOpenReason}
+use Rattle.fo_syntax.specs.Trees.{Sign, Variable, Local, Apply, Atom, Equation, Predicate}
+use Rattle.fo_syntax.specs.Fits.{FitsSign, FitSigns}
+use Rattle.fo_syntax.specs.Grammar.{term, atom}
+use Rattle.fo_syntax.proofs.TermFits.{term-signs}
+use Rattle.fo_syntax.proofs.AtomTexts.{sides, alone}
 use Rattle.heap_syntax.specs.Words.{true_word}
-use Rattle.fo_term_syntax.specs.Words.{false_word}
-use Rattle.fo_problem_syntax.specs.Trees.{Sequent}
-use Rattle.fo_problem_syntax.specs.Grammar.{sequent}
-use Rattle.fo_proof_syntax.specs.Trees.{Entry, Reason, Axiom, Refl, Clash, Decompose, Replace, WeakenLeft, WeakenRight, Contract, Unfold, Cut, Right, Link}
-use Rattle.fo_proof_syntax.specs.Grammar.{right_rule, entry, link, parts, reason}
-use Rattle.fo_values.specs.Values.{first_terms, sign_value, term_value, atom_value, atoms_value, sequent_value, entry_value, reason_value}
-use Rattle.fo_values.specs.Known.{IsKnownSign, IsKnownTerm, IsKnownEntry, IsKnownAtom, AreKnownAtoms, IsKnownSequent, IsKnownReason}
-use Rattle.fo_values.proofs.TreesAgain.{terms-value}
-use Rattle.fo_walk.specs.AtomSpans.{terms_in, total_terms}
-use Rattle.fo_walk.specs.Spans.{sequent_terms}
+use Rattle.fo_syntax.specs.Words.{false_word}
+use Rattle.fo_syntax.specs.ProblemTrees.{Sequent}
+use Rattle.fo_syntax.specs.ProblemGrammar.{sequent}
+use Rattle.fo_syntax.specs.ProofTrees.{Entry, Reason, Axiom, Refl, Clash, Decompose, Replace, WeakenLeft, WeakenRight}
+use Rattle.fo_syntax.specs.ProofTrees.{Contract, Unfold, Cut, Right, Link}
+use Rattle.fo_syntax.specs.ProofGrammar.{right_rule, entry, link, parts, reason}
+use Rattle.fo_file.specs.Values.{first_terms, sign_value, term_value, atom_value, atoms_value, sequent_value}
+use Rattle.fo_file.specs.Values.{entry_value, reason_value}
+use Rattle.fo_file.specs.Known.{IsKnownSign, IsKnownTerm, IsKnownEntry, IsKnownAtom, AreKnownAtoms, IsKnownSequent}
+use Rattle.fo_file.specs.Known.{IsKnownReason}
+use Rattle.fo_file.proofs.TreesAgain.{terms-value}
+use Rattle.fo_file.specs.AtomSpans.{terms_in, total_terms}
+use Rattle.fo_file.specs.Spans.{sequent_terms}
 use Rattle.fo_file.proofs.Fitted.{sides-fit, terms-fit, entries-fit}
-use Rattle.formula_facts.proofs.AllMembers.{each_take, each_drop}
+use Rattle.heap_formula.proofs.AllMembers.{each_take, each_drop}
 
 -- ---- the terms of a word
 
-pub first-each : (P : SignValue → Type 0) (n : ℕ) (w : Word) → words.AreTerms n w → Each P w → Each (λ (v : Word). words.IsTerm v × Each P v) (first_terms n w)
+pub first-each : (P : SignValue → Type 0) (n : ℕ) (w : Word) → words.AreTerms n w → Each P w
+    → Each (λ (v : Word). words.IsTerm v × Each P v) (first_terms n w)
 first-each P zero w are h = tt
 first-each P (suc n) w are h =
     let both = first_split n w are in
@@ -50,7 +55,8 @@ first-size (suc n) w are =
     let rest = first-size n (after_first w) both.1 in
     let parts = length-append (first_term w) (after_first w) in
     let whole = ap (λ (v : Word). length v) (take-append-drop (end_of 1 w) w) in
-    let front = sum_by-cons (λ (k : ℕ). k) (length (first_term w)) (map (λ (v : Word). length v) (first_terms n (after_first w))) in
+    let front = sum_by-cons (λ (k : ℕ). k) (length (first_term w))
+    (map (λ (v : Word). length v) (first_terms n (after_first w))) in
     omega arith
 
 -- ---- how many variables and applications there are
@@ -67,7 +73,8 @@ module _ (cs ps : List Heading) where
   atoms-size : (xs : List Atom) → AreKnownAtoms cs ps xs → atoms_size (atoms_value cs ps xs) ≡ total_terms xs
   atoms-size [] k = refl
   atoms-size (a ∷ more) k =
-      let front = sum_by-cons (λ (n : ℕ). n) (atom_size (atom_value cs ps a)) (map atom_size (atoms_value cs ps more)) in
+      let front = sum_by-cons (λ (n : ℕ). n) (atom_size (atom_value cs ps a)) (map atom_size (atoms_value cs ps more))
+      in
       omega (arith, front, atom-size a k.0, atoms-size more k.1)
 
   pub sequent-size : (s : Sequent) → IsKnownSequent cs ps s → sequent_size (sequent_value cs ps s) ≡ sequent_terms s
@@ -79,13 +86,15 @@ entry-fit : (e : Entry) → entry.fits e → (term false).fits e.value
 unfolding entry
 entry-fit e f = f.1.1
 
-module _ (cs : List Heading) (all : List ConstructorValue) (placed : (name : List ℕ) (n : ℕ) → arity_in cs name ≡ Some n → IsConstructor all (place_of cs name) n) where
+module _ (cs : List Heading) (all : List ConstructorValue)
+    (placed : (name : List ℕ) (n : ℕ) → arity_in cs name ≡ Some n → IsConstructor all (place_of cs name) n) where
   open-sign : (s : Sign) → FitsSign false s → IsKnownSign cs s → IsOpenSign all (sign_value cs s)
   open-sign (Variable n) f k = tt
   open-sign (Local n) f k = let no = f.0 in absurd cc
   open-sign (Apply name n) f k = placed name n k.1
 
-  open-signs : (ss : List Sign) → FitSigns false ss → Each (IsKnownSign cs) ss → Each (IsOpenSign all) (term_value cs ss)
+  open-signs : (ss : List Sign) → FitSigns false ss → Each (IsKnownSign cs) ss
+      → Each (IsOpenSign all) (term_value cs ss)
   open-signs [] f k = tt
   open-signs (s ∷ ss) f k = (open-sign s f.0 k.0, open-signs ss f.1 k.1)
 
@@ -103,19 +112,26 @@ module _ (cs : List Heading) (all : List ConstructorValue) (placed : (name : Lis
         let signs = (term-signs false (Apply name n ∷ ss) (alone false (Apply name n ∷ ss) f).fits).1 in
         first-each (IsOpenSign all) n (term_value cs ss) (terms-value cs n ss k.1.0) (open-signs ss signs.1 k.1.1)
 
-    open-atoms : (xs : List Atom) → Each (atom false).fits xs → AreKnownAtoms cs ps xs → Each (IsOpenAtom all) (atoms_value cs ps xs)
+    open-atoms : (xs : List Atom) → Each (atom false).fits xs → AreKnownAtoms cs ps xs
+        → Each (IsOpenAtom all) (atoms_value cs ps xs)
     open-atoms [] f k = tt
     open-atoms (a ∷ more) f k = (open-atom a f.0 k.0, open-atoms more f.1 k.1)
 
-    pub open-sequent : (s : Sequent) → sequent.fits s → IsKnownSequent cs ps s → IsOpenSequent all (sequent_value cs ps s)
+    pub open-sequent : (s : Sequent) → sequent.fits s → IsKnownSequent cs ps s
+        → IsOpenSequent all (sequent_value cs ps s)
     unfolding sequent
-    open-sequent s f k = (open-atoms s.left (sides-fit true_word false s.left f.1.0) k.0, open-atoms s.right (sides-fit false_word false s.right f.1.1) k.1)
+    open-sequent s f k = (
+      open-atoms s.left (sides-fit true_word false s.left f.1.0) k.0,
+      open-atoms s.right (sides-fit false_word false s.right f.1.1) k.1,
+    )
 
-    open-terms : (ts : List (List Sign)) → Each (term false).fits ts → Each (IsKnownTerm cs) ts → Each (IsOpenTerm all) (map (term_value cs) ts)
+    open-terms : (ts : List (List Sign)) → Each (term false).fits ts → Each (IsKnownTerm cs) ts
+        → Each (IsOpenTerm all) (map (term_value cs) ts)
     open-terms [] f k = tt
     open-terms (t ∷ ts) f k = (open-term t f.0 k.0, open-terms ts f.1 k.1)
 
-    open-entries : (es : List Entry) → Each entry.fits es → Each (IsKnownEntry cs) es → Each (λ (pair : ℕ × Word). IsOpenTerm all pair.1) (map (entry_value cs) es)
+    open-entries : (es : List Entry) → Each entry.fits es → Each (IsKnownEntry cs) es
+        → Each (λ (pair : ℕ × Word). IsOpenTerm all pair.1) (map (entry_value cs) es)
     open-entries [] f k = tt
     open-entries (e ∷ es) f k = (open-term e.value (entry-fit e f.0) k.0.1, open-entries es f.1 k.1)
 

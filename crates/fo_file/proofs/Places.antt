@@ -1,5 +1,6 @@
 -- In a text without a flaw a number's name has that number as its place.
-use Rattle.std.proofs.Common.{◌≡◌, ℕ, zero, suc, ◌+◌, Bool, true, false, List, [], ◌∷◌, length, take, map, Option, Some, None, refl, ap, subst, ◌∙◌, arith}
+use Rattle.std.proofs.Common.{◌≡◌, ℕ, zero, suc, ◌+◌, Bool, true, false, List, [], ◌∷◌, length, take, map, Option, Some}
+use Rattle.std.proofs.Common.{None, refl, ap, subst, ◌∙◌, arith}
 use Rattle.std.specs.Prelude.{not, ◌&&◌, ◌||◌, is_some, if◌then◌else◌, slice_get, nat_le}
 use Rattle.std.specs.List.{list_any}
 use Rattle.std.specs.Str.{bytes_eq, chars, is_utf8}
@@ -18,13 +19,15 @@ use Rattle.fo_formula.specs.declared.theory.Constructor.{Constructor as Construc
 use Rattle.fo_formula.specs.declared.theory.FoDefinition.{FoDefinition}
 use Rattle.fo_formula.specs.declared.theory.FoTheory.{FoTheory}
 use Rattle.fo_formula.specs.Values.{IsConstructor}
-use Rattle.fo_term_syntax.specs.Words.{reserved, free_name}
-use Rattle.fo_problem_syntax.specs.Trees.{Constructor, Definition}
-use Rattle.fo_walk.specs.Spans.{constructor_span, definition_span}
-use Rattle.fo_walk.specs.Flaws.{constructor_heading, predicate_heading, constructor_heads, predicate_heads, arguments_flaw, constant_flaw, constructor_flaw, definition_head_flaw, cases_flaw, definition_flaw, constructors_flaw}
-use Rattle.fo_values.specs.Written.{constructor_tree, definition_tree, constructor_name_in, predicate_name_in}
-use Rattle.list_facts.proofs.Options.{not_some}
-use Rattle.list_facts.proofs.Places.{get_map}
+use Rattle.fo_syntax.specs.Words.{reserved, free_name}
+use Rattle.fo_syntax.specs.ProblemTrees.{Constructor, Definition}
+use Rattle.fo_file.specs.Spans.{constructor_span, definition_span}
+use Rattle.fo_file.specs.Flaws.{constructor_heading, predicate_heading, constructor_heads, predicate_heads}
+use Rattle.fo_file.specs.Flaws.{arguments_flaw, constant_flaw, constructor_flaw, definition_head_flaw, cases_flaw}
+use Rattle.fo_file.specs.Flaws.{definition_flaw, constructors_flaw}
+use Rattle.fo_file.specs.Written.{constructor_tree, definition_tree, constructor_name_in, predicate_name_in}
+use Rattle.cyc_basics.proofs.Options.{not_some}
+use Rattle.cyc_basics.proofs.Places.{get_map}
 use Rattle.heap_reader.proofs.FirstPlaces.{flaw_at, place_first}
 
 pub get-unmap : {X Y : Type 0} (f : X → Y) (xs : List X) (n : ℕ) (y : Y) → slice_get (map f xs) n ≡ Some y
@@ -51,7 +54,8 @@ arity-first : (ys : List Heading) (p : ℕ) (x : Heading) → slice_get ys p ≡
     → arity_in ys x.name ≡ Some x.arity
 arity-first [] p x e none = absurd cc
 arity-first (y ∷ ys) zero x e none =
-    let same : y ≡ x = cc in own-arity y ys x.name (bytes_eq y.name x.name) (ap (λ (d : Heading). d.name) same) refl ∙ ap (λ (d : Heading). Some d.arity) same
+    let same : y ≡ x = cc in own-arity y ys x.name (bytes_eq y.name x.name) (ap (λ (d : Heading). d.name) same) refl
+    ∙ ap (λ (d : Heading). Some d.arity) same
 arity-first (y ∷ ys) (suc p) x e none =
     later-arity y (take p ys) ys x.name x.arity (bytes_eq y.name x.name) (arity-first ys p x e) none
 
@@ -75,11 +79,13 @@ no-name e =
 
 -- ---- constructors
 
-constructor-there : (o : Option ConstructorValue) → is_free_name reserved (constructor_name_in o) ≡ true → (c : ConstructorValue) × (o ≡ Some c)
+constructor-there : (o : Option ConstructorValue) → is_free_name reserved (constructor_name_in o) ≡ true
+    → (c : ConstructorValue) × (o ≡ Some c)
 constructor-there None e = absurd (no-name e)
 constructor-there (Some c) e = (c, refl)
 
-constructor-alone : (hs : List Heading) (n k : ℕ) (c : Constructor) → constructor_flaw hs n k c ≡ None → arity_in (take n hs) c.name ≡ None
+constructor-alone : (hs : List Heading) (n k : ℕ) (c : Constructor) → constructor_flaw hs n k c ≡ None
+    → arity_in (take n hs) c.name ≡ None
 constructor-alone hs n k c e =
     let duplicate = ill_if (is_some (arity_in (take n hs) c.name)) Duplicate (k + 1) in
     let rest = or_later (constant_flaw n (k + 2) c.arguments) (arguments_flaw (k + 2) c.arguments) in
@@ -88,7 +94,8 @@ constructor-alone hs n k c e =
     not_some (arity_in (take n hs) c.name) (not_ill _ Duplicate (k + 1) b.0)
 
 -- a constructor's heading stands at its place, and none with its name before it
-constructor-first : (cs : List ConstructorValue) → constructors_flaw (map constructor_tree cs) ≡ None → (p : ℕ) (c : ConstructorValue) → slice_get cs p ≡ Some c
+constructor-first : (cs : List ConstructorValue) → constructors_flaw (map constructor_tree cs) ≡ None
+    → (p : ℕ) (c : ConstructorValue) → slice_get cs p ≡ Some c
     → IsFirst (constructor_heads (map constructor_tree cs)) p (constructor_heading (constructor_tree c))
 constructor-first cs none p c is =
     let hs = constructor_heads (map constructor_tree cs) in
@@ -101,39 +108,51 @@ constructor-first cs none p c is =
       alone = constructor-alone hs p at.0 tree (subst (λ n. constructor_flaw hs n at.0 tree ≡ None) here at.1);
     }
 
-pub constructor-placed : (cs : List ConstructorValue) → constructors_flaw (map constructor_tree cs) ≡ None → (p : ℕ) → free_name.fits (constructor_name_in (slice_get cs p))
+pub constructor-placed : (cs : List ConstructorValue) → constructors_flaw (map constructor_tree cs) ≡ None → (p : ℕ)
+    → free_name.fits (constructor_name_in (slice_get cs p))
     → place_of (constructor_heads (map constructor_tree cs)) (constructor_name_in (slice_get cs p)) ≡ p
 constructor-placed cs none p free =
     let hs = constructor_heads (map constructor_tree cs) in
     let c = constructor-there (slice_get cs p) free in
     let first = constructor-first cs none p c.0 c.1 in
-    ap (λ o. place_of hs (constructor_name_in o)) c.1 ∙ place_first hs p (constructor_heading (constructor_tree c.0)) first.there first.alone
+    ap (λ o. place_of hs (constructor_name_in o)) c.1
+    ∙ place_first hs p (constructor_heading (constructor_tree c.0)) first.there first.alone
 
 -- the name of a constructor is known with its number of arguments
-pub constructor-arity : (cs : List ConstructorValue) → constructors_flaw (map constructor_tree cs) ≡ None → (p k : ℕ) → IsConstructor cs p k
+pub constructor-arity : (cs : List ConstructorValue) → constructors_flaw (map constructor_tree cs) ≡ None → (p k : ℕ)
+    → IsConstructor cs p k
     → arity_in (constructor_heads (map constructor_tree cs)) (constructor_name_in (slice_get cs p)) ≡ Some k
 constructor-arity cs none p k is =
     let hs = constructor_heads (map constructor_tree cs) in
     let c = get-unmap (λ (x : ConstructorValue). x.arguments) cs p k is in
     let first = constructor-first cs none p c.0 c.1 in
-    ap (λ o. arity_in hs (constructor_name_in o)) c.1 ∙ arity-first hs p (constructor_heading (constructor_tree c.0)) first.there first.alone ∙ ap (λ (n : ℕ). Some n) c.2
+    ap (λ o. arity_in hs (constructor_name_in o)) c.1
+    ∙ arity-first hs p (constructor_heading (constructor_tree c.0)) first.there first.alone
+    ∙ ap (λ (n : ℕ). Some n) c.2
 
 -- ---- predicates
 
-predicate-there : (o : Option FoDefinition) → is_free_name reserved (predicate_name_in o) ≡ true → (d : FoDefinition) × (o ≡ Some d)
+predicate-there : (o : Option FoDefinition) → is_free_name reserved (predicate_name_in o) ≡ true
+    → (d : FoDefinition) × (o ≡ Some d)
 predicate-there None e = absurd (no-name e)
 predicate-there (Some d) e = (d, refl)
 
-predicate-alone : (hs ps : List Heading) (n k : ℕ) (d : Definition) → definition_flaw hs ps n k d ≡ None → arity_in (take n ps) d.name ≡ None
+predicate-alone : (hs ps : List Heading) (n k : ℕ) (d : Definition) → definition_flaw hs ps n k d ≡ None
+    → arity_in (take n ps) d.name ≡ None
 predicate-alone hs ps n k d e =
     let taken = is_some (arity_in hs d.name) || is_some (arity_in (take n ps) d.name) in
     let a = neither (definition_head_flaw hs ps n k d) (cases_flaw hs ps d.arity (k + 6) d.cases) e in
-    let b = neither (over_if (nat_le 4096 n) Predicates k) (or_later (ill_if taken Duplicate (k + 1)) (arguments_flaw (k + 3) d.arity)) a.0 in
+    let b = neither (over_if (nat_le 4096 n) Predicates k)
+    (or_later (ill_if taken Duplicate (k + 1)) (arguments_flaw (k + 3) d.arity)) a.0 in
     let c = neither (ill_if taken Duplicate (k + 1)) (arguments_flaw (k + 3) d.arity) b.1 in
-    not_some (arity_in (take n ps) d.name) (neither-true (is_some (arity_in hs d.name)) (is_some (arity_in (take n ps) d.name)) (not_ill _ Duplicate (k + 1) c.0))
+    not_some (arity_in (take n ps) d.name) (neither-true (is_some (arity_in hs d.name))
+    (is_some (arity_in (take n ps) d.name)) (not_ill _ Duplicate (k + 1) c.0))
 
-predicate-first : (hs : List Heading) (k : ℕ) (t : FoTheory) (ds : List FoDefinition) → listed_flaw (definition_flaw hs (predicate_heads (map (definition_tree t) ds))) definition_span 0 k (map (definition_tree t) ds) ≡ None
-    → (p : ℕ) (d : FoDefinition) → slice_get ds p ≡ Some d → IsFirst (predicate_heads (map (definition_tree t) ds)) p (predicate_heading (definition_tree t d))
+predicate-first : (hs : List Heading) (k : ℕ) (t : FoTheory) (ds : List FoDefinition)
+    → listed_flaw (definition_flaw hs (predicate_heads (map (definition_tree t) ds))) definition_span 0 k
+    (map (definition_tree t) ds) ≡ None
+    → (p : ℕ) (d : FoDefinition) → slice_get ds p ≡ Some d
+    → IsFirst (predicate_heads (map (definition_tree t) ds)) p (predicate_heading (definition_tree t d))
 predicate-first hs k t ds none p d is =
     let ps = predicate_heads (map (definition_tree t) ds) in
     let tree = definition_tree t d in
@@ -145,19 +164,28 @@ predicate-first hs k t ds none p d is =
       alone = predicate-alone hs ps p at.0 tree (subst (λ n. definition_flaw hs ps n at.0 tree ≡ None) here at.1);
     }
 
-pub predicate-placed : (hs : List Heading) (k : ℕ) (t : FoTheory) (ds : List FoDefinition) → listed_flaw (definition_flaw hs (predicate_heads (map (definition_tree t) ds))) definition_span 0 k (map (definition_tree t) ds) ≡ None
-    → (p : ℕ) → free_name.fits (predicate_name_in (slice_get ds p)) → place_of (predicate_heads (map (definition_tree t) ds)) (predicate_name_in (slice_get ds p)) ≡ p
+pub predicate-placed : (hs : List Heading) (k : ℕ) (t : FoTheory) (ds : List FoDefinition)
+    → listed_flaw (definition_flaw hs (predicate_heads (map (definition_tree t) ds))) definition_span 0 k
+    (map (definition_tree t) ds) ≡ None
+    → (p : ℕ) → free_name.fits (predicate_name_in (slice_get ds p))
+    → place_of (predicate_heads (map (definition_tree t) ds)) (predicate_name_in (slice_get ds p)) ≡ p
 predicate-placed hs k t ds none p free =
     let ps = predicate_heads (map (definition_tree t) ds) in
     let d = predicate-there (slice_get ds p) free in
     let first = predicate-first hs k t ds none p d.0 d.1 in
-    ap (λ o. place_of ps (predicate_name_in o)) d.1 ∙ place_first ps p (predicate_heading (definition_tree t d.0)) first.there first.alone
+    ap (λ o. place_of ps (predicate_name_in o)) d.1
+    ∙ place_first ps p (predicate_heading (definition_tree t d.0)) first.there first.alone
 
 -- the name of a predicate is known with its number of arguments
-pub predicate-arity : (hs : List Heading) (k : ℕ) (t : FoTheory) (ds : List FoDefinition) → listed_flaw (definition_flaw hs (predicate_heads (map (definition_tree t) ds))) definition_span 0 k (map (definition_tree t) ds) ≡ None
-    → (p n : ℕ) → slice_get (map (λ (d : FoDefinition). d.arity) ds) p ≡ Some n → arity_in (predicate_heads (map (definition_tree t) ds)) (predicate_name_in (slice_get ds p)) ≡ Some n
+pub predicate-arity : (hs : List Heading) (k : ℕ) (t : FoTheory) (ds : List FoDefinition)
+    → listed_flaw (definition_flaw hs (predicate_heads (map (definition_tree t) ds))) definition_span 0 k
+    (map (definition_tree t) ds) ≡ None
+    → (p n : ℕ) → slice_get (map (λ (d : FoDefinition). d.arity) ds) p ≡ Some n
+    → arity_in (predicate_heads (map (definition_tree t) ds)) (predicate_name_in (slice_get ds p)) ≡ Some n
 predicate-arity hs k t ds none p n is =
     let ps = predicate_heads (map (definition_tree t) ds) in
     let d = get-unmap (λ (x : FoDefinition). x.arity) ds p n is in
     let first = predicate-first hs k t ds none p d.0 d.1 in
-    ap (λ o. arity_in ps (predicate_name_in o)) d.1 ∙ arity-first ps p (predicate_heading (definition_tree t d.0)) first.there first.alone ∙ ap (λ (m : ℕ). Some m) d.2
+    ap (λ o. arity_in ps (predicate_name_in o)) d.1
+    ∙ arity-first ps p (predicate_heading (definition_tree t d.0)) first.there first.alone
+    ∙ ap (λ (m : ℕ). Some m) d.2

@@ -10,18 +10,19 @@ use Rattle.fo_formula.specs.declared.atoms.FoAtom.{FoAtom}
 use Rattle.fo_formula.specs.declared.theory.FoDefinition.{FoDefinition}
 use Rattle.fo_formula.specs.declared.theory.FoTheory.{FoTheory}
 use Rattle.fo_formula.specs.Values.{IsConstructor}
-use Rattle.fo_limits.specs.Limits.{IsSignWithin, IsCaseSign, IsTermOf, TakesArguments, IsAtomOf, HasAtomsWithin, IsDefinitionWithin}
-use Rattle.fo_term_syntax.specs.Trees.{Sign, Variable, Local, Apply, Atom, Equation, Predicate}
-use Rattle.fo_problem_syntax.specs.Trees.{Definition, Sequent}
-use Rattle.fo_walk.specs.Flaws.{predicate_heads}
-use Rattle.fo_values.specs.Values.{sign_value, term_value, atom_value, atoms_value, sequent_value, definition_value}
-use Rattle.fo_values.specs.Known.{IsKnownSign, IsKnownTerm, IsKnownAtom, AreKnownAtoms, IsKnownSequent, IsKnownDefinition}
-use Rattle.fo_values.proofs.Adjacent.{first-count}
-use Rattle.fo_values.proofs.Names.{heading_arity, arity-there}
-use Rattle.fo_values.proofs.TreesAgain.{terms-value}
+use Rattle.fo_logic.specs.Limits.{IsSignWithin, IsCaseSign, IsTermOf, TakesArguments, IsAtomOf, HasAtomsWithin}
+use Rattle.fo_logic.specs.Limits.{IsDefinitionWithin}
+use Rattle.fo_syntax.specs.Trees.{Sign, Variable, Local, Apply, Atom, Equation, Predicate}
+use Rattle.fo_syntax.specs.ProblemTrees.{Definition, Sequent}
+use Rattle.fo_file.specs.Flaws.{predicate_heads}
+use Rattle.fo_file.specs.Values.{sign_value, term_value, atom_value, atoms_value, sequent_value, definition_value}
+use Rattle.fo_file.specs.Known.{IsKnownSign, IsKnownTerm, IsKnownAtom, AreKnownAtoms, IsKnownSequent, IsKnownDefinition}
+use Rattle.fo_file.proofs.Adjacent.{first-count}
+use Rattle.fo_file.proofs.Names.{heading_arity, arity-there}
+use Rattle.fo_file.proofs.TreesAgain.{terms-value}
 use Rattle.fo_file.proofs.Open.{first-each}
 use Rattle.fo_file.proofs.Outside.{IsOutside, InAtom}
-use Rattle.formula_facts.proofs.AllMembers.{each_made}
+use Rattle.heap_formula.proofs.AllMembers.{each_made}
 
 -- ---- predicates
 
@@ -35,14 +36,18 @@ arities-at hs ps (d ∷ ds) (suc i) n e = arities-at hs ps ds i n e
 -- a known predicate takes as many arguments as its heading says
 pub arity-placed : (hs : List Heading) (ds : List Definition) (name : List ℕ) (n : ℕ)
     → arity_in (predicate_heads ds) name ≡ Some n
-    → slice_get (map (λ (d : FoDefinition). d.arity) (map (definition_value hs (predicate_heads ds)) ds)) (place_of (predicate_heads ds) name) ≡ Some n
+    → slice_get (map (λ (d : FoDefinition). d.arity) (map (definition_value hs (predicate_heads ds)) ds))
+    (place_of (predicate_heads ds) name) ≡ Some n
 arity-placed hs ds name n e =
-    arities-at hs (predicate_heads ds) ds (place_of (predicate_heads ds) name) n (arity-there (predicate_heads ds) name n e)
+    arities-at hs (predicate_heads ds) ds (place_of (predicate_heads ds) name) n
+    (arity-there (predicate_heads ds) name n e)
 
-module _ (cs ps : List Heading) (t : FoTheory) (takes : (name : List ℕ) (n : ℕ) → arity_in ps name ≡ Some n → TakesArguments t (place_of ps name) n) where
+module _ (cs ps : List Heading) (t : FoTheory) (takes : (name : List ℕ) (n : ℕ) → arity_in ps name ≡ Some n
+    → TakesArguments t (place_of ps name) n) where
   -- ---- known atoms of signs with R are said as atoms of signs with Q
 
-  module _ (R : Sign → Type 0) (Q : SignValue → Type 0) (one : (s : Sign) → IsKnownSign cs s → R s → Q (sign_value cs s)) where
+  module _ (R : Sign → Type 0) (Q : SignValue → Type 0)
+      (one : (s : Sign) → IsKnownSign cs s → R s → Q (sign_value cs s)) where
     signs-said : (ss : List Sign) → Each (IsKnownSign cs) ss → Each R ss → Each Q (term_value cs ss)
     signs-said [] k r = tt
     signs-said (s ∷ ss) k r = (one s k.0 r.0, signs-said ss k.1 r.1)
@@ -78,7 +83,8 @@ module _ (cs ps : List Heading) (t : FoTheory) (takes : (name : List ℕ) (n : �
   all-known-in [] k = tt
   all-known-in (a ∷ more) k = (known-in a k.0, all-known-in more k.1)
 
-  module _ (placed : (name : List ℕ) (n : ℕ) → arity_in cs name ≡ Some n → IsConstructor t.constructors (place_of cs name) n) where
+  module _ (placed : (name : List ℕ) (n : ℕ) → arity_in cs name ≡ Some n
+      → IsConstructor t.constructors (place_of cs name) n) where
     case-sign : (s : Sign) → IsKnownSign cs s → IsKnownSign cs s → IsCaseSign t (sign_value cs s)
     case-sign (Variable n) k r = tt
     case-sign (Local n) k r = tt
@@ -94,8 +100,12 @@ module _ (cs ps : List Heading) (t : FoTheory) (takes : (name : List ℕ) (n : �
 
     pub definition-said : (d : Definition) → IsKnownDefinition cs ps d → IsDefinitionWithin t (definition_value cs ps d)
     definition-said d k =
-        each_made (atoms_value cs ps) (AreKnownAtoms cs ps) (λ (xs : List FoAtom). Each (IsAtomOf t (IsCaseSign t)) xs) case-said d.cases k.1
+        each_made (atoms_value cs ps) (AreKnownAtoms cs ps) (λ (xs : List FoAtom). Each (IsAtomOf t (IsCaseSign t)) xs)
+        case-said d.cases k.1
 
     pub sequent-said : (s : Sequent) → IsKnownSequent cs ps s → Each (InAtom IsOutside) s.left
         → Each (InAtom IsOutside) s.right → HasAtomsWithin t (sequent_value cs ps s)
-    sequent-said s k left right = (atoms-said IsOutside (IsSignWithin t) outside-sign s.left k.0 left, atoms-said IsOutside (IsSignWithin t) outside-sign s.right k.1 right)
+    sequent-said s k left right = (
+      atoms-said IsOutside (IsSignWithin t) outside-sign s.left k.0 left,
+      atoms-said IsOutside (IsSignWithin t) outside-sign s.right k.1 right,
+    )

@@ -1,3 +1,13 @@
+pub mod AtomSpans
+pub mod Arguments
+pub mod AtomFlaws
+pub mod Parts
+pub mod Spans
+pub mod Flaws
+pub mod Answers
+pub mod Values
+pub mod Known
+pub mod Written
 pub mod OfTerms
 pub mod Reading
 pub mod Questions

@@ -12,7 +12,7 @@ use Rattle.fo_formula.specs.declared.nodes.FoReason.TheVariants.{Rule, Link}
 use Rattle.fo_formula.specs.Nodes.{FoNode}
 use Rattle.fo_formula.specs.declared.nodes.FoFile.{FoFile}
 use Rattle.fo_formula.specs.Words.{IsTerm}
-use Rattle.fo_values.specs.declared.problem.FoProblem.{FoProblem}
+use Rattle.fo_file.specs.declared.values.problem.FoProblem.{FoProblem}
 
 abbrev pub IsAtomOfTerms : FoAtom → Type 0
 IsAtomOfTerms (Equation l r) = Unit {0}

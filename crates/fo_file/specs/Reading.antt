@@ -5,14 +5,14 @@ use Rattle.cyc_lex.specs.Placed.{Placed}
 use Rattle.cyc_lex.specs.Spacing.{text_of}
 use Rattle.heap_reader.specs.Reading as reading
 use Rattle.fo_formula.specs.declared.nodes.FoFile.{FoFile}
-use Rattle.fo_problem_syntax.specs.Trees.{Problem}
-use Rattle.fo_problem_syntax.specs.Grammar.{problem}
-use Rattle.fo_proof_syntax.specs.Trees.{File}
-use Rattle.fo_proof_syntax.specs.Grammar.{body, file}
-use Rattle.fo_walk.specs.Flaws.{constructor_heads, predicate_heads, file_flaw, problem_flaw}
-use Rattle.fo_values.specs.declared.problem.FoProblem.{FoProblem}
-use Rattle.fo_values.specs.Values.{file_value, problem_value}
-use Rattle.fo_values.specs.Written.{file_tree, problem_tree}
+use Rattle.fo_syntax.specs.ProblemTrees.{Problem}
+use Rattle.fo_syntax.specs.ProblemGrammar.{problem}
+use Rattle.fo_syntax.specs.ProofTrees.{File}
+use Rattle.fo_syntax.specs.ProofGrammar.{body, file}
+use Rattle.fo_file.specs.Flaws.{constructor_heads, predicate_heads, file_flaw, problem_flaw}
+use Rattle.fo_file.specs.declared.values.problem.FoProblem.{FoProblem}
+use Rattle.fo_file.specs.Values.{file_value, problem_value}
+use Rattle.fo_file.specs.Written.{file_tree, problem_tree}
 use Rattle.fo_file.specs.OfTerms.{IsFileOfTerms, IsProblemOfTerms}
 
 -- ---- proofs

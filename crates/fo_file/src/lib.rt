@@ -1,13 +1,15 @@
-//! Texts of first-order logic: reading proofs and problems, with the exact place of each fault, and writing a proof that
-//! is read again.
+//! Texts of first-order logic: reading proofs and problems, with the exact place of each fault, and writing a proof
+//! that is read again.
 #![tactic(auto)]
 
 mod problem_reading;
 mod reading;
+pub mod values;
+pub mod walk;
 mod writing;
 
+pub use crate::values::FoProblem;
 pub use fo_formula::FoFile;
-pub use fo_values::FoProblem;
 pub use problem_reading::{bytes_spell_one_problem, read_fo_problem};
 pub use reading::read_fo;
 pub use writing::{

@@ -2,18 +2,18 @@
 
 ghost use Rattle.std.specs.Prelude.{◌≡◌, ◌-◌, ◌<◌, ◌^◌, ℕ, List, Ok, None, length, map, IfOk};
 ghost use Rattle.cyc_lex.specs.Word.{EndsOnce, word_of};
-ghost use Rattle.fo_problem_syntax.specs.Grammar.{problem};
-ghost use Rattle.fo_problem_syntax.specs.Trees.{problem_of};
-ghost use Rattle.fo_walk.specs.Flaws.{constructor_heads, predicate_heads, problem_flaw as first_flaw};
-ghost use Rattle.fo_values.specs.declared.problem.FoProblem.{FoProblem as Question};
+ghost use Rattle.fo_syntax.specs.ProblemGrammar.{problem};
+ghost use Rattle.fo_syntax.specs.ProblemTrees.{problem_of};
+ghost use Rattle.fo_file.specs.Flaws.{constructor_heads, predicate_heads, problem_flaw as first_flaw};
+ghost use Rattle.fo_file.specs.declared.values.problem.FoProblem.{FoProblem as Question};
 ghost use Rattle.fo_file.specs.Questions.{IsFoQuestion};
 ghost use Rattle.fo_file.specs.Reading.{IsProblemOf, IsReadProblem, IsWritableProblem, ReadsProblemFrom, ReadsProblem};
 
+use crate::values::{FoProblem, problem_value};
+use crate::walk::{Names, problem_flaw};
+use cyc_basics::memory::OutOfMemory;
 use cyc_lex::{ReadFault, Tokens, tokens};
-use cyc_memory::OutOfMemory;
-use fo_problem_syntax::{ProblemTree, read_problem_tree};
-use fo_values::{FoProblem, problem_value};
-use fo_walk::{Names, problem_flaw};
+use fo_syntax::problems::{ProblemTree, read_problem_tree};
 use heap_reader::flaw_fault;
 use std::alloc::Global;
 
@@ -49,8 +49,8 @@ fn read_tokens(alloc: Global, tokens: &Tokens<'_>) -> Result<FoProblem, ReadFaul
     Ok(problem_of_tree(alloc, &names, &tree)?)
 }
 
-/// The problem that the bytes spell, or the first fault of the text: of its tokens, then of its grammar, then of what it
-/// says, each at the first place where it stands.
+/// The problem that the bytes spell, or the first fault of the text: of its tokens, then of its grammar, then of what
+/// it says, each at the first place where it stands.
 pub fn read_fo_problem(alloc: Global, bytes: &[u8]) -> Result<FoProblem, ReadFault>
     requires { length bytes.now < 2 ^ 32 - 1 }
     ensures reads { ReadsProblem bytes.now result }

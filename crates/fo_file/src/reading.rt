@@ -3,17 +3,17 @@
 ghost use Rattle.std.specs.Prelude.{◌≡◌, ◌-◌, ◌<◌, ◌^◌, None, length, map, IfOk};
 ghost use Rattle.cyc_lex.specs.Word.{EndsOnce, word_of};
 ghost use Rattle.fo_logic.specs.Files.{IsFoProof};
-ghost use Rattle.fo_proof_syntax.specs.Grammar.{file};
-ghost use Rattle.fo_proof_syntax.specs.Trees.{file_of};
-ghost use Rattle.fo_walk.specs.Flaws.{constructor_heads, predicate_heads, file_flaw as first_flaw};
+ghost use Rattle.fo_syntax.specs.ProofGrammar.{file};
+ghost use Rattle.fo_syntax.specs.ProofTrees.{file_of};
+ghost use Rattle.fo_file.specs.Flaws.{constructor_heads, predicate_heads, file_flaw as first_flaw};
 ghost use Rattle.fo_file.specs.Reading.{IsFileOf, IsWritable, ReadsFrom, Reads};
 
+use crate::values::file_value;
+use crate::walk::{Names, file_flaw};
+use cyc_basics::memory::OutOfMemory;
 use cyc_lex::{ReadFault, Tokens, tokens};
-use cyc_memory::OutOfMemory;
 use fo_formula::FoFile;
-use fo_proof_syntax::{FileTree, read_tree};
-use fo_values::file_value;
-use fo_walk::{Names, file_flaw};
+use fo_syntax::proofs::{FileTree, read_tree};
 use heap_reader::flaw_fault;
 use std::alloc::Global;
 

@@ -5,16 +5,16 @@ ghost use Rattle.heap_formula.specs.Words.{Each};
 ghost use Rattle.cyc_lex.specs.declared.fault.ReadFault.{ReadFault};
 ghost use Rattle.fo_formula.specs.declared.nodes.FoFile.{FoFile as Proof};
 ghost use Rattle.fo_formula.specs.Nodes.{FoNode};
-ghost use Rattle.fo_limits.specs.Limits.{IsNodeWithin};
-ghost use Rattle.fo_values.specs.declared.problem.FoProblem.{FoProblem as Question};
+ghost use Rattle.fo_logic.specs.Limits.{IsNodeWithin};
+ghost use Rattle.fo_file.specs.declared.values.problem.FoProblem.{FoProblem as Question};
 ghost use Rattle.fo_file.specs.Questions.{IsFoQuestion};
 ghost use Rattle.fo_file.specs.Reading.{text_of_file, IsRead, IsReadAgain, IsWritable, IsWritableProblem, Reads};
 
-use cyc_limits::MOST_NODES;
-use cyc_memory::OutOfMemory;
+use crate::values::file_tree;
+use cyc_basics::limits::MOST_NODES;
+use cyc_basics::memory::OutOfMemory;
 use fo_formula::FoFile;
-use fo_proof_syntax::write_tree;
-use fo_values::file_tree;
+use fo_syntax::proofs::write_tree;
 use std::alloc::Global;
 
 /// The text of a proof in the written form: its tokens with one space between neighbours but where the format has none,
@@ -39,8 +39,8 @@ pub fn bytes_spell_one_file()
     ensures { (bytes : List ℕ) (f g : Proof) → IsRead bytes (Ok f) → IsRead bytes (Ok g) → f ≡ g }
 {}
 
-/// Nodes within the limits make a proof over the theory of a problem that was read, and that proof has a text. The function
-/// does nothing.
+/// Nodes within the limits make a proof over the theory of a problem that was read, and that proof has a text. The
+/// function does nothing.
 pub fn proofs_of_problems_have_texts()
     ensures { (p : Question) (nodes : List FoNode)
         → IsFoQuestion p → IsWritableProblem p → 0 < length nodes → length nodes ≤ MOST_NODES

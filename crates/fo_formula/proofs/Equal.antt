@@ -36,15 +36,19 @@ words_eq-Decides a b = slice_eq-Decides word_eq-Decides a b (pointwise word_eq a
 
 pub atom_eq-Decides : (a b : FoAtom) → Decides (atom_eq.it a b) (a ≡ b)
 atom_eq-Decides (Equation a b) (Equation c d) =
-    both_Decides (word_eq a c) (word_eq b d) (word_eq-Decides a c) (word_eq-Decides b d) (λ p q i. Equation (p i) (q i)) (λ e. (cc, cc))
+    both_Decides (word_eq a c) (word_eq b d) (word_eq-Decides a c) (word_eq-Decides b d) (λ p q i. Equation (p i) (q i))
+    (λ e. (cc, cc))
 atom_eq-Decides (Equation a b) (Predicate c d) = search rules
 atom_eq-Decides (Predicate a b) (Equation c d) = search rules
 atom_eq-Decides (Predicate a b) (Predicate c d) =
-    both_Decides _ (pointwise word_eq b d) (Decides-eqb a c) (words_eq-Decides b d) (λ p q i. Predicate (p i) (q i)) (λ e. (cc, cc))
+    both_Decides _ (pointwise word_eq b d) (Decides-eqb a c) (words_eq-Decides b d) (λ p q i. Predicate (p i) (q i))
+    (λ e. (cc, cc))
 
 pub atoms_eq-Decides : (a b : List FoAtom) → Decides (pointwise atom_eq.it a b) (a ≡ b)
 atoms_eq-Decides a b = slice_eq-Decides atom_eq-Decides a b (pointwise atom_eq.it a b) refl
 
 pub sequent_eq-Decides : (a b : FoSequent) → Decides (sequent_eq.it a b) (a ≡ b)
 sequent_eq-Decides a b =
-    both_Decides (pointwise atom_eq.it a.left b.left) (pointwise atom_eq.it a.right b.right) (atoms_eq-Decides a.left b.left) (atoms_eq-Decides a.right b.right) (λ p q i. record { left = p i; right = q i }) (λ e. (ap (λ s. s.left) e, ap (λ s. s.right) e))
+    both_Decides (pointwise atom_eq.it a.left b.left) (pointwise atom_eq.it a.right b.right)
+    (atoms_eq-Decides a.left b.left) (atoms_eq-Decides a.right b.right)
+    (λ p q i. record { left = p i; right = q i }) (λ e. (ap (λ s. s.left) e, ap (λ s. s.right) e))

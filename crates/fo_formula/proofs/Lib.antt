@@ -4,3 +4,15 @@ pub mod Reading
 pub mod StageLaws
 pub mod ValidityLaws
 pub mod Equal
+pub mod Steps
+pub mod Lefts
+pub mod Reflects
+pub mod Agreement
+pub mod Readings
+pub mod RuleLemmas
+pub mod Unfolds
+pub mod Rights
+pub mod AllRules
+pub mod Links
+pub mod Fits
+pub mod Fine

@@ -17,7 +17,8 @@ terms_apart (suc n) (s ∷ a) (t ∷ c) b d h k e =
     let r = terms_apart (arity s + n) a c b d h k' rest in (λ i. same i ∷ r.0 i, r.1)
 
 -- m + n terms are m terms and n terms
-pub terms_split : (m n : ℕ) (w : Word) → AreTerms (m + n) w → AreTerms m (take (end_of m w) w) × AreTerms n (drop (end_of m w) w)
+pub terms_split : (m n : ℕ) (w : Word) → AreTerms (m + n) w
+    → AreTerms m (take (end_of m w) w) × AreTerms n (drop (end_of m w) w)
 terms_split zero n w h = let z : 0 + n ≡ n = omega arith in (tt, subst (λ i. AreTerms i w) z h)
 terms_split (suc m) n [] h =
     let z : suc m + n ≡ suc (m + n) = omega arith in absurd (subst (λ i. AreTerms i []) z h)

@@ -1,5 +1,6 @@
 -- Words in place of signs.
-use Rattle.std.proofs.Common.{◌≡◌, ◌↔◌, ℕ, zero, suc, ◌+◌, List, [], ◌∷◌, ◌++◌, map, refl, sym, ap, ◌∙◌, subst, arith, append_assoc}
+use Rattle.std.proofs.Common.{◌≡◌, ◌↔◌, ℕ, zero, suc, ◌+◌, List, [], ◌∷◌, ◌++◌, map, refl, sym, ap, ◌∙◌, subst, arith}
+use Rattle.std.proofs.Common.{append_assoc}
 use Rattle.heap_formula.specs.Words.{Each}
 use Rattle.fo_formula.specs.declared.terms.Sign.{Sign}
 use Rattle.fo_formula.specs.declared.terms.Sign.TheVariants.{Universal, Local, Constructor}
@@ -10,7 +11,7 @@ use Rattle.fo_formula.specs.Words.{Word, arity, AreTerms, IsTerm, replaced, in_a
 use Rattle.fo_formula.specs.Values.{IsConstructor, IsClosedSign, IsClosedTerm, IsValuation, entry, sign_value, value}
 use Rattle.fo_formula.specs.Meaning.{Family, AtomHolds}
 use Rattle.fo_formula.specs.Shapes.{IsOpenSign, IsOpenTerm}
-use Rattle.formula_facts.proofs.AllMembers.{each_append, each_or}
+use Rattle.heap_formula.proofs.AllMembers.{each_append, each_or}
 
 pub replaced-append : (f : Sign → Word) (a b : Word) → replaced f (a ++ b) ≡ replaced f a ++ replaced f b
 replaced-append f [] b = refl
@@ -42,11 +43,13 @@ module _ (v e v' e' : List Word) (g : Sign → Word) where
   value-replaced w h =
       replaced-twice (sign_value v e) g w ∙ replaced-same (λ s. value v e (g s)) (sign_value v' e') w h
 
-  pub values-replaced : (ts : List Word) → Each (Each IsValued) ts → map (value v e) (map (replaced g) ts) ≡ map (value v' e') ts
+  pub values-replaced : (ts : List Word) → Each (Each IsValued) ts
+      → map (value v e) (map (replaced g) ts) ≡ map (value v' e') ts
   values-replaced [] h = refl
   values-replaced (t ∷ ts) h = λ i. value-replaced t h.0 i ∷ values-replaced ts h.1 i
 
-  pub atom-replaced : (P : Family) (x : FoAtom) → InAtom IsValued x → AtomHolds P v e (in_atom g x) ↔ AtomHolds P v' e' x
+  pub atom-replaced : (P : Family) (x : FoAtom) → InAtom IsValued x → AtomHolds P v e (in_atom g x)
+      ↔ AtomHolds P v' e' x
   atom-replaced P (Equation l r) h =
       let a = value-replaced l h.0 in
       let b = value-replaced r h.1 in
@@ -101,10 +104,12 @@ module _ (cs : List ConstructorValue) (constant : IsConstructor cs 0 0) where
   signs_keep v e h k [] = tt
   signs_keep v e h k (s ∷ w) = (sign_keeps v e h k s, signs_keep v e h k w)
 
-  pub value_terms : (v e : List Word) → IsValuation cs v → IsValuation cs e → (n : ℕ) (w : Word) → AreTerms n w → AreTerms n (value v e w)
+  pub value_terms : (v e : List Word) → IsValuation cs v → IsValuation cs e → (n : ℕ) (w : Word) → AreTerms n w
+      → AreTerms n (value v e w)
   value_terms v e h k n w a = terms-replaced (sign_value v e) n w (signs_keep v e h k w) a
 
-  closed_signs : (v e : List Word) → IsValuation cs v → (w : Word) → Each (IsOpenSign cs) w → Each (IsClosedSign cs) (value v e w)
+  closed_signs : (v e : List Word) → IsValuation cs v → (w : Word) → Each (IsOpenSign cs) w
+      → Each (IsClosedSign cs) (value v e w)
   closed_signs v e h [] a = tt
   closed_signs v e h (Universal m ∷ w) a =
       each_append (IsClosedSign cs) (entry v m) (value v e w) (entry_closed v h m).1 (closed_signs v e h w a.1)
@@ -114,6 +119,7 @@ module _ (cs : List ConstructorValue) (constant : IsConstructor cs 0 0) where
   pub value_closed : (v : List Word) → IsValuation cs v → (w : Word) → IsOpenTerm cs w → IsClosedTerm cs (value v [] w)
   value_closed v h w a = (value_terms v [] h tt 1 w a.0, closed_signs v [] h w a.1)
 
-  pub values_closed : (v : List Word) → IsValuation cs v → (ts : List Word) → Each (IsOpenTerm cs) ts → IsValuation cs (map (value v []) ts)
+  pub values_closed : (v : List Word) → IsValuation cs v → (ts : List Word) → Each (IsOpenTerm cs) ts
+      → IsValuation cs (map (value v []) ts)
   values_closed v h [] a = tt
   values_closed v h (t ∷ ts) a = (value_closed v h t a.0, values_closed v h ts a.1)

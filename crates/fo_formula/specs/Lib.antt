@@ -7,3 +7,11 @@ pub mod Sizes
 pub mod Shapes
 pub mod Equality
 pub mod Nodes
+pub mod Tests
+pub mod Traces
+pub mod Answers
+pub mod Table
+pub mod LinkTable
+pub mod Soundness
+pub mod Answered
+pub mod Small

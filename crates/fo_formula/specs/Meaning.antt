@@ -12,8 +12,8 @@ use Rattle.fo_formula.specs.Values.{IsValuation, value}
 abbrev pub Family : Type 1
 Family = ℕ → List Word → Type 0
 
--- an atom holds under a valuation and values of the locals, where the predicates mean P; two closed terms are equal where
--- they are the same
+-- an atom holds under a valuation and values of the locals, where the predicates mean P; two closed terms are equal
+-- where they are the same
 abbrev pub AtomHolds : Family → List Word → List Word → FoAtom → Type 0
 AtomHolds P v e (Equation l r) = value v e l ≡ value v e r
 AtomHolds P v e (Predicate p ts) = P p (map (value v e) ts)

@@ -5,8 +5,8 @@ use crate::terms::{Term, Terms};
 use std::alloc::AllocError;
 use std::marker::Model;
 
-/// An atom: two terms have one value; or a predicate, with its number in the order of the definitions (from 0), holds of
-/// its arguments.
+/// An atom: two terms have one value; or a predicate, with its number in the order of the definitions (from 0), holds
+/// of its arguments.
 #[derive(PartialEq, Drop)]
 pub enum FoAtom {
     Equation { left: Term, right: Term },

@@ -8,8 +8,8 @@ ghost use Rattle.fo_formula.specs.Validity.{SequentHolds, HoldsAt};
 ghost use Rattle.fo_formula.specs.declared.sequents.FoSequent.{FoSequent};
 ghost use Rattle.fo_formula.specs.declared.theory.FoTheory.{FoTheory};
 
-/// A word is read as terms in one way (Łukasiewicz 1929): of two words that begin with as many terms, and are one, these
-/// terms and the rests are one.
+/// A word is read as terms in one way (Łukasiewicz 1929): of two words that begin with as many terms, and are one,
+/// these terms and the rests are one.
 pub fn terms_are_read_in_one_way()
     ensures { (n : ℕ) (a c b d : Word) → AreTerms n a → AreTerms n c → a ++ b ≡ c ++ d → (a ≡ c) × (b ≡ d) }
 {}

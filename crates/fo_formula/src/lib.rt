@@ -7,11 +7,12 @@ pub mod laws;
 mod nodes;
 mod numbers;
 mod sequents;
+pub mod table;
 mod terms;
 mod theory;
 
 pub use atoms::{FoAtom, FoAtoms, is_same_atom};
-pub use cyc_memory::OutOfMemory;
+pub use cyc_basics::memory::OutOfMemory;
 pub use heap_formula::{DefName, Pair, Pairs, Positions, Side};
 pub use nodes::{FoFile, FoLink, FoNode, FoNodes, FoReason, FoRule, FoSubst};
 pub use numbers::{Kind, bound_of_atoms, bound_of_sequent};

@@ -10,9 +10,10 @@ use logics::ProofNode;
 use std::alloc::AllocError;
 use std::marker::Model;
 
-/// A rule with its arguments (Brotherston and Simpson 2011); numbers are positions from 0. `Axiom` names an atom on each
-/// side, `Refl` and `WeakenRight` one on the right, `Right` one on the right, a case of its predicate, and the terms for
-/// the case's locals; the others name one on the left. `Replace` names the side of the equation whose variable goes.
+/// A rule with its arguments (Brotherston and Simpson 2011); numbers are positions from 0. `Axiom` names an atom on
+/// each side, `Refl` and `WeakenRight` one on the right, `Right` one on the right, a case of its predicate, and the
+/// terms for the case's locals; the others name one on the left. `Replace` names the side of the equation whose
+/// variable goes.
 #[derive(Clone, Drop)]
 pub enum FoRule {
     Axiom { left: u32, right: u32 },
@@ -69,8 +70,8 @@ impl FoSubst {
     }
 }
 
-/// A link from a bud to its companion: the companion's number, the terms for its variables, and for each of its atoms on
-/// the left and on the right the bud's atom that it becomes.
+/// A link from a bud to its companion: the companion's number, the terms for its variables, and for each of its atoms
+/// on the left and on the right the bud's atom that it becomes.
 #[derive(Drop)]
 pub struct FoLink {
     pub to: u32,

@@ -105,8 +105,8 @@ impl FoCases {
     }
 }
 
-/// An inductive definition (Martin-Löf 1971): the predicate holds where the atoms of one of its cases do, for some values
-/// of the case's locals. In a case the variables below `arity` are the parameters.
+/// An inductive definition (Martin-Löf 1971): the predicate holds where the atoms of one of its cases do, for some
+/// values of the case's locals. In a case the variables below `arity` are the parameters.
 #[derive(Drop)]
 pub struct FoDefinition {
     pub name: DefName,

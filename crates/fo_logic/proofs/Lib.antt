@@ -1,1 +1,10 @@
+pub mod Lists
+pub mod Filled
+pub mod Premises
+pub mod Open
+pub mod Numbers
 pub mod Correct
+pub mod Segments
+pub mod Endless
+pub mod Free
+pub mod Allocates

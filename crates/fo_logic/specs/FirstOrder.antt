@@ -10,15 +10,15 @@ use Rattle.fo_formula.specs.declared.sequents.FoSequent.{FoSequent}
 use Rattle.fo_formula.specs.declared.theory.FoTheory.{FoTheory}
 use Rattle.fo_formula.specs.Shapes.{HasConstant, IsOpenSequent}
 use Rattle.fo_formula.specs.Validity.{HoldsAt}
-use Rattle.fo_table.specs.declared.faults.FoFault.{FoFault}
-use Rattle.fo_table.specs.declared.faults.FoFault.TheVariants.{PremiseCount, PremiseDiffers, NoSuchNode}
-use Rattle.fo_table.specs.declared.premises.FoPremise.{FoPremise}
-use Rattle.fo_table.specs.Answers.{Answer}
-use Rattle.fo_table.specs.LinkTable.{link_fault, link_premise}
-use Rattle.fo_table.specs.Small.{IsSmallSequent, IsSmallDefinition}
-use Rattle.fo_table.specs.Soundness.{HasOpenReason}
-use Rattle.fo_table.specs.Table.{rule_answer}
-use Rattle.fo_table.specs.Tests.{same_sequent}
+use Rattle.fo_formula.specs.declared.table.faults.FoFault.{FoFault}
+use Rattle.fo_formula.specs.declared.table.faults.FoFault.TheVariants.{PremiseCount, PremiseDiffers, NoSuchNode}
+use Rattle.fo_formula.specs.declared.table.premises.FoPremise.{FoPremise}
+use Rattle.fo_formula.specs.Answers.{Answer}
+use Rattle.fo_formula.specs.LinkTable.{link_fault, link_premise}
+use Rattle.fo_formula.specs.Small.{IsSmallSequent, IsSmallDefinition}
+use Rattle.fo_formula.specs.Soundness.{HasOpenReason}
+use Rattle.fo_formula.specs.Table.{rule_answer}
+use Rattle.fo_formula.specs.Tests.{same_sequent}
 use Rattle.trace_pairs.specs.Graph.{Pair}
 use Rattle.proof_graph.specs.Traces.{trace_pairs_of}
 use Rattle.logics.specs.declared.premises.Subgoal.{Subgoal}

@@ -2,7 +2,7 @@
 use Rattle.heap_formula.specs.Meaning.{Stages}
 use Rattle.fo_formula.specs.declared.nodes.FoReason.{FoReason}
 use Rattle.fo_formula.specs.declared.sequents.FoSequent.{FoSequent}
-use Rattle.fo_table.specs.declared.faults.FoFault.{FoFault}
+use Rattle.fo_formula.specs.declared.table.faults.FoFault.{FoFault}
 use Rattle.logics.specs.Logics.{LogicValue}
 use Rattle.fo_logic.specs.declared.first_order.FirstOrder.{FirstOrder}
 use Rattle.fo_logic.specs.FirstOrder.{first_order, MayOccur, IsGiven, Holds}

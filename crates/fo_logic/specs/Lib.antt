@@ -1,6 +1,9 @@
+pub mod Limits
 pub mod FirstOrder
 pub mod Places
 pub mod LogicLaws
 pub mod Instance
 pub mod Files
 pub mod Verdicts
+pub mod Samples
+pub mod FirstOrderSamples

@@ -5,7 +5,7 @@ use Rattle.fo_formula.specs.declared.nodes.FoReason.{FoReason}
 use Rattle.fo_formula.specs.declared.sequents.FoSequent.{FoSequent}
 use Rattle.fo_formula.specs.Nodes.{FoNode}
 use Rattle.fo_formula.specs.Validity.{SequentHolds}
-use Rattle.fo_table.specs.declared.faults.FoFault.{FoFault}
+use Rattle.fo_formula.specs.declared.table.faults.FoFault.{FoFault}
 use Rattle.trace_pairs.specs.Graph.{Node as GraphNode}
 use Rattle.trace_pairs.specs.Lasso.{IsLasso, Progresses}
 use Rattle.buchi_inclusion.specs.Answers.{HasAtMost, HasMoreThan}
@@ -47,5 +47,6 @@ RootHolds f = (root : FoNode) → slice_get f.nodes 0 ≡ Some root → SequentH
 abbrev pub IsVerdict : FoFile → FoVerdict → Type 0
 IsVerdict f Accepted = IsCorrect f × HasAtMost (file_graph f) state_limit × RootHolds f
 IsVerdict f (RuleRefused v fault) = IsLeastFault f v fault
-IsVerdict f (PathRefused l) = HasRightNodes f × IsLasso (file_graph f) l × (Progresses (file_graph f) l → ⊥) × HasAtMost (file_graph f) state_limit
+IsVerdict f (PathRefused l) = HasRightNodes f × IsLasso (file_graph f) l × (Progresses (file_graph f) l → ⊥)
+    × HasAtMost (file_graph f) state_limit
 IsVerdict f TooManyStates = HasRightNodes f × HasMoreThan (file_graph f) state_limit

@@ -3,15 +3,16 @@ ghost use Rattle.std.specs.Prelude.{◌≡◌, ◌≤◌, length, IfOk, map};
 ghost use Rattle.logics.specs.Answers.{IsPremises, IsPairsBack};
 ghost use Rattle.proof_graph.specs.Traces.{trace_pairs_of};
 ghost use Rattle.fo_formula.specs.declared.nodes.FoReason.TheVariants.{Rule, Link};
-ghost use Rattle.fo_table.specs.Small.{IsSmallSequent};
-ghost use Rattle.fo_logic.specs.FirstOrder.{predicate_places, traced as traced_premise, rule_premises, companion_pairs, target_of};
+ghost use Rattle.fo_formula.specs.Small.{IsSmallSequent};
+ghost use Rattle.fo_logic.specs.FirstOrder.{predicate_places, traced as traced_premise, rule_premises, companion_pairs};
+ghost use Rattle.fo_logic.specs.FirstOrder.{target_of};
 
-use cyc_limits::MOST_LEFT;
-use cyc_memory::OutOfMemory;
+use cyc_basics::limits::MOST_LEFT;
+use cyc_basics::memory::OutOfMemory;
+use fo_formula::table::{FoFault, FoPremise, FoRuleError};
 use fo_formula::{FoAtom, FoLink, FoReason, FoRule, FoSequent, FoTheory, Pair};
-use fo_parts::is_one_sequent;
+use fo_rules::parts::is_one_sequent;
 use fo_rules::{premises, premises_by_link};
-use fo_table::{FoFault, FoPremise, FoRuleError};
 use logics::{Logic, Refused, Subgoal, TracePairs};
 use std::alloc::Global;
 

@@ -1,5 +1,6 @@
 -- Sizes of atoms that are joined, put in a place, or changed.
-use Rattle.std.proofs.Common.{◌≡◌, ℕ, zero, suc, ◌+◌, ◌<◌, ◌≤◌, List, [], ◌∷◌, ◌++◌, map, length, Some, slice_get, refl, sym, ap, ◌∙◌, arith, length-append}
+use Rattle.std.proofs.Common.{◌≡◌, ℕ, zero, suc, ◌+◌, ◌<◌, ◌≤◌, List, [], ◌∷◌, ◌++◌, map, length, Some, slice_get, refl}
+use Rattle.std.proofs.Common.{sym, ap, ◌∙◌, arith, length-append}
 use Rattle.std.specs.Prelude.{slice_set, sum}
 use Rattle.std.proofs.lemmas.List.Sums.{sum-map, sum_by-cons}
 use Rattle.std.proofs.Math.ListN.{get_or}
@@ -11,7 +12,7 @@ use Rattle.fo_formula.specs.declared.atoms.FoAtom.TheVariants.{Equation, Predica
 use Rattle.fo_formula.specs.Words.{Word, replaced, in_atom, first_constant}
 use Rattle.fo_formula.specs.Values.{sign_value}
 use Rattle.fo_formula.specs.Sizes.{words_size, atom_size, atoms_size}
-use Rattle.fo_table.specs.Table.{variables_from}
+use Rattle.fo_formula.specs.Table.{variables_from}
 
 pub size-cons : {X : Type 0} (f : X → ℕ) (x : X) (xs : List X) → sum (map f (x ∷ xs)) ≡ f x + sum (map f xs)
 size-cons f x xs = sum-map f (x ∷ xs) ∙ sum_by-cons f x xs ∙ ap (λ n. f x + n) (sym (sum-map f xs))
@@ -23,7 +24,8 @@ size-append (x ∷ xs) ys =
     let a = size-cons atom_size x (xs ++ ys) in
     let b = size-cons atom_size x xs in omega arith
 
-pub size-set : (xs : List FoAtom) (j : ℕ) (y : FoAtom) → j < length xs → atoms_size (slice_set xs j y) ≡ atoms_size (without j xs) + atom_size y
+pub size-set : (xs : List FoAtom) (j : ℕ) (y : FoAtom) → j < length xs
+    → atoms_size (slice_set xs j y) ≡ atoms_size (without j xs) + atom_size y
 size-set [] j y h = absurd (omega arith)
 size-set (x ∷ xs) zero y h = let a = size-cons atom_size y xs in omega arith
 size-set (x ∷ xs) (suc j) y h =
@@ -76,7 +78,8 @@ variable_length n zero j = refl
 variable_length n (suc k) zero = refl
 variable_length n (suc k) (suc j) = variable_length (suc n) k j
 
-pub fresh_length : (args : List Word) (n k : ℕ) (s : Sign) → length (sign_value args (variables_from n k) s) ≡ length (sign_value args [] s)
+pub fresh_length : (args : List Word) (n k : ℕ) (s : Sign)
+    → length (sign_value args (variables_from n k) s) ≡ length (sign_value args [] s)
 fresh_length args n k (Universal j) = refl
 fresh_length args n k (Local j) = variable_length n k j
 fresh_length args n k (Constructor c m) = refl

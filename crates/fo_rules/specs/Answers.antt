@@ -8,12 +8,12 @@ use Rattle.fo_formula.specs.declared.sequents.FoSequent.{FoSequent}
 use Rattle.fo_formula.specs.Bounds.{atoms_bound}
 use Rattle.fo_formula.specs.Sizes.{words_size}
 use Rattle.fo_formula.specs.Words.{Word}
-use Rattle.fo_table.specs.declared.faults.FoFault.{FoFault}
-use Rattle.fo_table.specs.declared.faults.FoFault.TheVariants.{NotVariable, NoSuchCase, TermCount, LinkRight}
-use Rattle.fo_table.specs.Answers.{Answer, needs, finds, limited}
-use Rattle.fo_table.specs.LinkTable.{map_place, linked, link_fault, link_premise, unless_fault}
-use Rattle.fo_table.specs.Table.{with_term, right_premise}
-use Rattle.fo_table.specs.Tests.{only_variable}
+use Rattle.fo_formula.specs.declared.table.faults.FoFault.{FoFault}
+use Rattle.fo_formula.specs.declared.table.faults.FoFault.TheVariants.{NotVariable, NoSuchCase, TermCount, LinkRight}
+use Rattle.fo_formula.specs.Answers.{Answer, needs, finds, limited}
+use Rattle.fo_formula.specs.LinkTable.{map_place, linked, link_fault, link_premise, unless_fault}
+use Rattle.fo_formula.specs.Table.{with_term, right_premise}
+use Rattle.fo_formula.specs.Tests.{only_variable}
 
 -- left atom i, an equation, with its other side for the variable that its named side is
 abbrev pub named_answer : FoSequent → ℕ → Word → Word → Answer

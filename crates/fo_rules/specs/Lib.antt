@@ -1,2 +1,4 @@
+pub mod Putting
+pub mod Capping
 pub mod Making
 pub mod Answers

@@ -4,15 +4,15 @@ use Rattle.heap_formula.specs.Positions.{without}
 use Rattle.fo_formula.specs.declared.atoms.FoAtom.{FoAtom}
 use Rattle.fo_formula.specs.declared.sequents.FoSequent.{FoSequent}
 use Rattle.fo_formula.specs.Words.{in_atom, Word}
-use Rattle.fo_table.specs.declared.premises.FoPremise.{FoPremise}
-use Rattle.fo_table.specs.Table.{with_left, with_right, case_body}
-use Rattle.fo_table.specs.Traces.{same_pairs, kept_pairs, child_pairs}
-use Rattle.fo_parts.specs.declared.changes.Change.{Change}
-use Rattle.fo_parts.specs.Putting.{put}
+use Rattle.fo_formula.specs.declared.table.premises.FoPremise.{FoPremise}
+use Rattle.fo_formula.specs.Table.{with_left, with_right, case_body}
+use Rattle.fo_formula.specs.Traces.{same_pairs, kept_pairs, child_pairs}
+use Rattle.fo_rules.specs.declared.parts.changes.Change.{Change}
+use Rattle.fo_rules.specs.Putting.{put}
 use Rattle.std.specs.List.{list_all}
-use Rattle.cyc_limits.specs.declared.TheConstants.{MOST_TERMS}
+use Rattle.cyc_basics.specs.declared.limits.TheConstants.{MOST_TERMS}
 use Rattle.fo_formula.specs.Sizes.{atom_size, atoms_size, sequent_size}
-use Rattle.fo_parts.specs.Capping.{capped}
+use Rattle.fo_rules.specs.Capping.{capped}
 
 -- a changed atom in place of right atom j
 abbrev pub right_by : FoSequent → ℕ → Change → FoAtom → FoPremise

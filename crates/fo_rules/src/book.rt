@@ -1,9 +1,9 @@
 // The rules by their names.
 ghost use Rattle.std.specs.Prelude.{◌≤◌, length, IfOk};
 ghost use Rattle.fo_formula.specs.Shapes.{HasConstant, IsOpenSequent};
-ghost use Rattle.fo_table.specs.Answered.{IsAnswer};
-ghost use Rattle.fo_table.specs.Soundness.{IsLocallySound, HasOpenTerms};
-ghost use Rattle.fo_table.specs.Table.{rule_answer};
+ghost use Rattle.fo_formula.specs.Answered.{IsAnswer};
+ghost use Rattle.fo_formula.specs.Soundness.{IsLocallySound, HasOpenTerms};
+ghost use Rattle.fo_formula.specs.Table.{rule_answer};
 
 use crate::closing::{premises_axiom, premises_clash, premises_refl};
 use crate::replacing::premises_replace;
@@ -13,9 +13,9 @@ use crate::structural::{
     premises_contract, premises_cut, premises_weaken_left, premises_weaken_right,
 };
 use crate::unfolding::premises_unfold;
-use cyc_limits::{MOST_LEFT, MOST_RIGHT};
+use cyc_basics::limits::{MOST_LEFT, MOST_RIGHT};
+use fo_formula::table::{FoPremise, FoRuleError};
 use fo_formula::{FoRule, FoSequent, FoTheory};
-use fo_table::{FoPremise, FoRuleError};
 use std::alloc::Global;
 
 fn premises_by_rule(

@@ -1,10 +1,10 @@
 // The rules that close a branch.
-ghost use Rattle.fo_table.specs.Answered.{IsAnswer};
-ghost use Rattle.fo_table.specs.Table.{axiom_answer, refl_answer, clash_answer};
+ghost use Rattle.fo_formula.specs.Answered.{IsAnswer};
+ghost use Rattle.fo_formula.specs.Table.{axiom_answer, refl_answer, clash_answer};
 
+use crate::parts::{atom_at, is_absurd, is_one_atom, is_one_term, limited};
+use fo_formula::table::{FoFault, FoPremise, FoRuleError};
 use fo_formula::{FoAtom, FoSequent};
-use fo_parts::{atom_at, is_absurd, is_one_atom, is_one_term, limited};
-use fo_table::{FoFault, FoPremise, FoRuleError};
 use std::alloc::Global;
 
 /// No premise, where left atom `i` is right atom `j`.

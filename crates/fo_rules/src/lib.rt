@@ -4,6 +4,7 @@
 mod book;
 mod closing;
 mod linking;
+pub mod parts;
 mod replacing;
 mod right_cases;
 mod splitting;
@@ -11,7 +12,7 @@ mod structural;
 mod unfolding;
 
 pub use book::premises;
-pub use cyc_memory::OutOfMemory;
+pub use cyc_basics::memory::OutOfMemory;
 pub use linking::{link_fault, premises_by_link};
 pub use right_cases::cases;
 pub use splitting::first_of;

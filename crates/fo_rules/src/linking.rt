@@ -2,18 +2,19 @@
 ghost use Rattle.std.specs.Prelude.{◌≡◌, ◌<◌, ◌≤◌, ◌^◌, ℕ, length, map, slice_get, slice_index, IfOk};
 ghost use Rattle.fo_formula.specs.Sizes.{atoms_size};
 ghost use Rattle.fo_formula.specs.Words.{in_atom};
-ghost use Rattle.fo_table.specs.Answered.{IsAnswer};
-ghost use Rattle.fo_table.specs.LinkTable.{is_atom, map_place as place_of, link_fault as fault_of_link, link_premise as premise_of};
-ghost use Rattle.fo_table.specs.Traces.{pairs_from};
-ghost use Rattle.fo_parts.specs.Putting.{put};
-ghost use Rattle.fo_parts.specs.declared.changes.Change.TheVariants.{Substitution};
+ghost use Rattle.fo_formula.specs.Answered.{IsAnswer};
+ghost use Rattle.fo_formula.specs.LinkTable.{is_atom, map_place as place_of, link_fault as fault_of_link};
+ghost use Rattle.fo_formula.specs.LinkTable.{link_premise as premise_of};
+ghost use Rattle.fo_formula.specs.Traces.{pairs_from};
+ghost use Rattle.fo_rules.specs.Putting.{put};
+ghost use Rattle.fo_rules.specs.declared.parts.changes.Change.TheVariants.{Substitution};
 ghost use Rattle.fo_rules.specs.Answers.{right_link_fault, companion_answer};
 
-use cyc_limits::{MOST_LEFT, MOST_RIGHT, MOST_TERMS};
-use cyc_memory::OutOfMemory;
+use crate::parts::{Change, atom_at, changed_atom, is_one_atom, one_premise, size_of_changed_atom};
+use cyc_basics::limits::{MOST_LEFT, MOST_RIGHT, MOST_TERMS};
+use cyc_basics::memory::OutOfMemory;
+use fo_formula::table::{FoFault, FoPremise, FoRuleError};
 use fo_formula::{FoAtom, FoLink, FoSequent, Pair, Pairs};
-use fo_parts::{Change, atom_at, changed_atom, is_one_atom, one_premise, size_of_changed_atom};
-use fo_table::{FoFault, FoPremise, FoRuleError};
 use std::alloc::Global;
 
 /// Whether the bud has, at a position, the companion's atom after the change.

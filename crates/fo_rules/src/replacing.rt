@@ -2,22 +2,22 @@
 ghost use Rattle.std.specs.Prelude.{◌≡◌, ◌<◌, ◌≤◌, ◌+◌, ◌∷◌, [], length, map, nat_le, IfOk};
 ghost use Rattle.heap_formula.specs.Positions.{without};
 ghost use Rattle.fo_formula.specs.Words.{in_atom};
-ghost use Rattle.fo_table.specs.Answered.{IsAnswer};
-ghost use Rattle.fo_table.specs.Answers.{limited as limited_answer};
-ghost use Rattle.fo_table.specs.Table.{with_term, named as named_of, unnamed as unnamed_of, replace_answer};
-ghost use Rattle.fo_parts.specs.Putting.{put};
-ghost use Rattle.fo_parts.specs.declared.changes.Change.TheVariants.{Substitution};
+ghost use Rattle.fo_formula.specs.Answered.{IsAnswer};
+ghost use Rattle.fo_formula.specs.Answers.{limited as limited_answer};
+ghost use Rattle.fo_formula.specs.Table.{with_term, named as named_of, unnamed as unnamed_of, replace_answer};
+ghost use Rattle.fo_rules.specs.Putting.{put};
+ghost use Rattle.fo_rules.specs.declared.parts.changes.Change.TheVariants.{Substitution};
 ghost use Rattle.fo_rules.specs.Making.{changed_size};
 ghost use Rattle.fo_rules.specs.Answers.{named_answer};
 
-use cyc_limits::{MOST_LEFT, MOST_RIGHT, MOST_TERMS};
-use cyc_memory::OutOfMemory;
-use fo_formula::{FoAtom, FoAtoms, FoSequent, FoSubst, Side, Term};
-use fo_parts::{
+use crate::parts::{
     Change, atom_at, atoms_without, is_small_with, one_premise, only_variable, pairs_of_kept,
     push_changed, size_of_changed_atoms,
 };
-use fo_table::{FoFault, FoPremise, FoRuleError};
+use cyc_basics::limits::{MOST_LEFT, MOST_RIGHT, MOST_TERMS};
+use cyc_basics::memory::OutOfMemory;
+use fo_formula::table::{FoFault, FoPremise, FoRuleError};
+use fo_formula::{FoAtom, FoAtoms, FoSequent, FoSubst, Side, Term};
 use std::alloc::Global;
 
 fn one_term(alloc: Global, n: u16, term: &Term) -> Result<Change, OutOfMemory>

@@ -3,19 +3,19 @@ ghost use Rattle.std.specs.Prelude.{◌≡◌, ◌<◌, ◌≤◌, ◌+◌, leng
 ghost use Rattle.std.specs.List.{list_all};
 ghost use Rattle.fo_formula.specs.Meaning.{cases_of};
 ghost use Rattle.fo_formula.specs.declared.numbers.Kind.TheVariants.{Locals};
-ghost use Rattle.fo_table.specs.Answered.{IsAnswer};
-ghost use Rattle.fo_table.specs.Table.{right_answer};
+ghost use Rattle.fo_formula.specs.Answered.{IsAnswer};
+ghost use Rattle.fo_formula.specs.Table.{right_answer};
 ghost use Rattle.fo_rules.specs.Making.{right_by, atom_fits};
 ghost use Rattle.fo_rules.specs.Answers.{case_answer, numbered_answer, chosen_answer};
 
-use cyc_limits::{MOST_LEFT, MOST_RIGHT, MOST_TERMS};
-use cyc_memory::OutOfMemory;
-use fo_formula::{FoAtom, FoAtoms, FoDefinition, FoSequent, FoTheory, Kind, Terms, bound_of_atoms};
-use fo_parts::{
+use crate::parts::{
     Change, atom_at, atoms_without, changed_atom, is_small_with, pairs_of_same, size_of_atoms,
     size_of_changed_atom, size_of_terms,
 };
-use fo_table::{FoFault, FoPremise, FoRuleError};
+use cyc_basics::limits::{MOST_LEFT, MOST_RIGHT, MOST_TERMS};
+use cyc_basics::memory::OutOfMemory;
+use fo_formula::table::{FoFault, FoPremise, FoRuleError};
+use fo_formula::{FoAtom, FoAtoms, FoDefinition, FoSequent, FoTheory, Kind, Terms, bound_of_atoms};
 use std::alloc::Global;
 
 /// The cases of a predicate, none where there is no such predicate.

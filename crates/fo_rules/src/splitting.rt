@@ -1,17 +1,18 @@
 // Equations between terms with one constructor come apart.
 ghost use Rattle.std.specs.Prelude.{◌≡◌, ◌<◌, ◌≤◌, ◌++◌, length, IfOk, OnOk};
 ghost use Rattle.fo_formula.specs.Words.{arity as arity_of_sign, end_of, first_term, after_first};
-ghost use Rattle.fo_table.specs.Answered.{IsAnswer};
-ghost use Rattle.fo_table.specs.Table.{equations as equations_of, argument_equations as arguments_of, decomposed, decompose_answer};
+ghost use Rattle.fo_formula.specs.Answered.{IsAnswer};
+ghost use Rattle.fo_formula.specs.Table.{equations as equations_of, argument_equations as arguments_of, decomposed};
+ghost use Rattle.fo_formula.specs.Table.{decompose_answer};
 
-use cyc_limits::MOST_LEFT;
-use cyc_memory::OutOfMemory;
-use fo_formula::{FoAtom, FoAtoms, FoSequent, Sign, Term};
-use fo_parts::{
+use crate::parts::{
     atom_at, atoms_without, have_one_constructor, limited, one_premise, pairs_of_kept,
     sequent_with_left,
 };
-use fo_table::{FoFault, FoPremise, FoRuleError};
+use cyc_basics::limits::MOST_LEFT;
+use cyc_basics::memory::OutOfMemory;
+use fo_formula::table::{FoFault, FoPremise, FoRuleError};
+use fo_formula::{FoAtom, FoAtoms, FoSequent, Sign, Term};
 use std::alloc::Global;
 
 fn arity(sign: Sign) -> u8

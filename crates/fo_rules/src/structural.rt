@@ -1,16 +1,17 @@
 // The rules that remove or copy atoms, and Cut.
 ghost use Rattle.std.specs.Prelude.{◌≡◌, ◌<◌, ◌≤◌, length, IfOk, Some};
-ghost use Rattle.fo_table.specs.Answered.{IsAnswer};
-ghost use Rattle.fo_table.specs.Table.{weakened_left, weakened_right, contracted, cut_right, cut_left, weaken_left_answer, weaken_right_answer, contract_answer, cut_answer};
+ghost use Rattle.fo_formula.specs.Answered.{IsAnswer};
+ghost use Rattle.fo_formula.specs.Table.{weakened_left, weakened_right, contracted, cut_right, cut_left};
+ghost use Rattle.fo_formula.specs.Table.{weaken_left_answer, weaken_right_answer, contract_answer, cut_answer};
 
-use cyc_limits::MOST_LEFT;
-use cyc_memory::OutOfMemory;
-use fo_formula::{FoAtom, FoAtoms, FoSequent};
-use fo_parts::{
+use crate::parts::{
     atom_at, atoms_and, atoms_without, limited, one_premise, pairs_of_kept, pairs_of_same,
     push_copy, sequent_with_left, sequent_with_right, size_of_atom, two_premises,
 };
-use fo_table::{FoFault, FoPremise, FoRuleError};
+use cyc_basics::limits::MOST_LEFT;
+use cyc_basics::memory::OutOfMemory;
+use fo_formula::table::{FoFault, FoPremise, FoRuleError};
+use fo_formula::{FoAtom, FoAtoms, FoSequent};
 use std::alloc::Global;
 
 fn without_left(alloc: Global, sequent: &FoSequent, i: usize) -> Result<FoPremise, OutOfMemory>

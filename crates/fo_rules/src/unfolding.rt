@@ -5,21 +5,22 @@ ghost use Rattle.fo_formula.specs.Bounds.{atoms_bound, sequent_bound};
 ghost use Rattle.fo_formula.specs.declared.atoms.FoAtom.{FoAtom as AtomValue};
 ghost use Rattle.fo_formula.specs.declared.numbers.Kind.TheVariants.{Locals};
 ghost use Rattle.fo_formula.specs.declared.terms.Sign.TheVariants.{Universal};
-ghost use Rattle.fo_table.specs.Answered.{IsAnswer};
-ghost use Rattle.fo_table.specs.Table.{variables_from, is_numbered, unfold_premise as premise_of, unfold_cases as cases_answer, unfold_answer};
+ghost use Rattle.fo_formula.specs.Answered.{IsAnswer};
+ghost use Rattle.fo_formula.specs.Table.{variables_from, is_numbered, unfold_premise as premise_of};
+ghost use Rattle.fo_formula.specs.Table.{unfold_cases as cases_answer, unfold_answer};
 ghost use Rattle.fo_rules.specs.Making.{unfold_by, case_fits, unfolding_fits};
 
-use crate::right_cases::cases;
-use cyc_limits::{MOST_LEFT, MOST_RIGHT, MOST_TERMS, VARIABLE_NUMBERS};
-use cyc_memory::OutOfMemory;
-use fo_formula::{
-    FoAtom, FoAtoms, FoSequent, FoTheory, Kind, Sign, Term, Terms, bound_of_atoms, bound_of_sequent,
-};
-use fo_parts::{
+use crate::parts::{
     Change, atom_at, atoms_without, is_small_with, pairs_of_kept, push_changed, push_children,
     sequent_with_left, size_of_atoms, size_of_changed_atoms,
 };
-use fo_table::{FoFault, FoPremise, FoRuleError};
+use crate::right_cases::cases;
+use cyc_basics::limits::{MOST_LEFT, MOST_RIGHT, MOST_TERMS, VARIABLE_NUMBERS};
+use cyc_basics::memory::OutOfMemory;
+use fo_formula::table::{FoFault, FoPremise, FoRuleError};
+use fo_formula::{
+    FoAtom, FoAtoms, FoSequent, FoTheory, Kind, Sign, Term, Terms, bound_of_atoms, bound_of_sequent,
+};
 use std::alloc::Global;
 
 /// Whether each case has, with `kept` atoms, at most 32.

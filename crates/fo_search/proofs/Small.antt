@@ -2,12 +2,12 @@
 use Rattle.std.proofs.Common.{◌≡◌, ℕ, ◌<◌, ◌≤◌, List, Some, slice_get, length, get_or, sym, arith}
 use Rattle.fo_formula.specs.declared.theory.FoTheory.{FoTheory}
 use Rattle.fo_formula.specs.Meaning.{cases_of}
-use Rattle.fo_table.specs.Small.{IsSmallSequent}
-use Rattle.fo_table.proofs.Fine.{cases_few}
-use Rattle.list_facts.proofs.Places.{at_index}
-use Rattle.tableaux.specs.Fair.{AllOccur}
-use Rattle.fo_calculus.specs.Calculus.{OpenGoal, MadeNode, sequent_of}
-use Rattle.fo_calculus.specs.Occurring.{MayOccur}
+use Rattle.fo_formula.specs.Small.{IsSmallSequent}
+use Rattle.fo_formula.proofs.Fine.{cases_few}
+use Rattle.cyc_basics.proofs.Places.{at_index}
+use Rattle.derivations.specs.Fair.{AllOccur}
+use Rattle.fo_search.specs.Calculus.{OpenGoal, MadeNode, sequent_of}
+use Rattle.fo_search.specs.Occurring.{MayOccur}
 
 module _ (t : FoTheory) (nodes : List MadeNode) (g : OpenGoal) (occur : AllOccur (MayOccur t) nodes g) where
   pub small_node : (v : ℕ) (m : MadeNode) → slice_get nodes v ≡ Some m → IsSmallSequent (sequent_of m)

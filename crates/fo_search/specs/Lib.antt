@@ -1,3 +1,16 @@
+pub mod Trying
+pub mod Subterms
+pub mod Before
+pub mod Links
+pub mod After
+pub mod Choosing
+pub mod Walks
+pub mod Lines
+pub mod Told
+pub mod Calculus
+pub mod Occurring
+pub mod Files
+pub mod Found
 pub mod Reasons
 pub mod Moves
 pub mod Outcomes

@@ -2,13 +2,13 @@
 use Rattle.std.specs.Prelude.{◌≡◌}
 use Rattle.fo_formula.specs.declared.nodes.FoReason.{FoReason}
 use Rattle.fo_formula.specs.declared.sequents.FoSequent.{FoSequent}
-use Rattle.fo_values.specs.declared.problem.FoProblem.{FoProblem}
-use Rattle.fo_limits.specs.Limits.{IsReasonWithin}
-use Rattle.tableaux.specs.Tableau.{Calculus}
+use Rattle.fo_file.specs.declared.values.problem.FoProblem.{FoProblem}
+use Rattle.fo_logic.specs.Limits.{IsReasonWithin}
+use Rattle.derivations.specs.Tableau.{Calculus}
 use Rattle.derivations.specs.declared.derivation.Derivation.{Derivation}
 use Rattle.derivations.specs.Derivations.{IsInOrder}
-use Rattle.fo_calculus.specs.Calculus.{calculus_of, node_limit}
-use Rattle.fo_calculus.specs.Occurring.{MayOccur}
+use Rattle.fo_search.specs.Calculus.{calculus_of, node_limit}
+use Rattle.fo_search.specs.Occurring.{MayOccur}
 use Rattle.fo_search.specs.declared.logic.FirstOrderSearch.{FirstOrderSearch}
 
 -- the calculus of a theory, and what may occur and be given in it

@@ -1,20 +1,20 @@
 -- What the answers of the prover say.
 use Rattle.std.specs.Prelude.{◌≡◌, ◌≤◌, ℕ, List, length, map, Some, slice_get}
-use Rattle.cyc_limits.specs.declared.TheConstants.{MOST_NODES}
+use Rattle.cyc_basics.specs.declared.limits.TheConstants.{MOST_NODES}
 use Rattle.fo_formula.specs.declared.nodes.FoFile.{FoFile}
 use Rattle.fo_formula.specs.Nodes.{FoNode}
 use Rattle.fo_formula.specs.declared.nodes.FoReason.{FoReason}
 use Rattle.fo_formula.specs.declared.sequents.FoSequent.{FoSequent}
 use Rattle.heap_formula.specs.Words.{Each}
-use Rattle.derivation_search.specs.System.{System, Outcome, IsFound, IsNotFound, HasTooManyDerivations, HasTooManyStates}
-use Rattle.derivation_search.specs.Firsts.{FirstFound}
+use Rattle.derivations.specs.System.{System, Outcome, IsFound, IsNotFound, HasTooManyDerivations, HasTooManyStates}
+use Rattle.derivations.specs.Firsts.{FirstFound}
 use Rattle.buchi_inclusion.specs.Answers.{HasAtMost}
-use Rattle.tableaux.specs.Tableau.{Tableau, replay}
-use Rattle.fo_values.specs.declared.problem.FoProblem.{FoProblem}
+use Rattle.derivations.specs.Tableau.{Tableau, replay}
+use Rattle.fo_file.specs.declared.values.problem.FoProblem.{FoProblem}
 use Rattle.fo_logic.specs.Verdicts.{file_graph, state_limit, IsCorrect, RootHolds}
-use Rattle.fo_limits.specs.Limits.{IsNodeWithin}
-use Rattle.fo_calculus.specs.Calculus.{calculus_of, search_system}
-use Rattle.fo_found.specs.Files.{proof_nodes}
+use Rattle.fo_logic.specs.Limits.{IsNodeWithin}
+use Rattle.fo_search.specs.Calculus.{calculus_of, search_system}
+use Rattle.fo_search.specs.Files.{proof_nodes}
 use Rattle.fo_search.specs.declared.prover.FoProved.{FoProved}
 use Rattle.fo_search.specs.declared.prover.FoProved.TheVariants.{Found, NotFound, TooManyDerivations, TooManyStates}
 
@@ -33,8 +33,8 @@ outcome_of NotFound = IsNotFound
 outcome_of TooManyDerivations = HasTooManyDerivations
 outcome_of TooManyStates = HasTooManyStates
 
--- a correct proof of the problem's goal, which holds; its nodes are what its reasons make of the goal, and within the limits
--- of a file
+-- a correct proof of the problem's goal, which holds; its nodes are what its reasons make of the goal, and within the
+-- limits of a file
 pub record IsProofFor (problem : FoProblem) (f : FoFile) : Type 0 where
   pub theory : f.theory ≡ problem.theory
   pub tableau : Tableau FoSequent FoReason

@@ -2,7 +2,7 @@
 use Rattle.std.specs.Prelude.{List, map}
 use Rattle.fo_formula.specs.declared.nodes.FoReason.{FoReason}
 use Rattle.fo_formula.specs.declared.nodes.FoReason.TheVariants.{Rule}
-use Rattle.fo_moves.specs.Told.{rules_left}
+use Rattle.fo_search.specs.Told.{rules_left}
 use Rattle.fo_search.specs.declared.reasons.RuleReasons.{RuleReasons}
 use Rattle.fo_search.specs.declared.reasons.RuleReasons.TheVariants.{Before, After}
 

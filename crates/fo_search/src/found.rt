@@ -1,13 +1,13 @@
 // A derivation without open goals as a proof.
 ghost use Rattle.std.specs.Prelude.{◌≡◌, length, IfOk};
 ghost use Rattle.derivations.specs.Derivations.{tableau_in};
-ghost use Rattle.fo_found.specs.Files.{proof_nodes};
+ghost use Rattle.fo_search.specs.Files.{proof_nodes};
 
 use crate::logic::FirstOrderSearch;
-use cyc_memory::OutOfMemory;
+use cyc_basics::memory::OutOfMemory;
 use derivations::Derivation;
+use derivations::found::nodes_made;
 use fo_formula::{FoFile, FoNodes, FoReason, FoSequent, FoTheory};
-use logic_tableaux::nodes_made;
 use std::alloc::Global;
 
 /// The proof that a derivation is, over the theory.

@@ -2,11 +2,14 @@
 //! 2011), by iterative deepening.
 #![tactic(auto)]
 
+pub mod calculus;
 mod found;
+pub mod laws;
 mod logic;
+pub mod moves;
 mod offering;
 mod prover;
 mod reasons;
 
-pub use cyc_memory::OutOfMemory;
+pub use cyc_basics::memory::OutOfMemory;
 pub use prover::{FoProved, prove_fo};

@@ -1,14 +1,14 @@
 // First-order logic as a logic whose derivations are searched for.
 use crate::offering::offers_at;
 use crate::reasons::RuleReasons;
-use cyc_memory::OutOfMemory;
-use derivation_search::Offers;
+use cyc_basics::memory::OutOfMemory;
+use derivations::found::effect_of;
+use derivations::search::Offers;
+use derivations::tableaux::{MadeNode, OpenGoal, Rules};
 use derivations::{Effect, Logic, Strategy};
 use fo_formula::{FoReason, FoSequent};
 use fo_logic::FirstOrder;
-use logic_tableaux::effect_of;
 use std::alloc::Global;
-use tableaux::{MadeNode, OpenGoal, Rules};
 
 /// First-order logic with what goals are offered.
 #[derive(Drop)]

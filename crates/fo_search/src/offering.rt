@@ -1,23 +1,23 @@
 // What a goal is offered.
 ghost use Rattle.std.specs.Prelude.{◌≡◌, ◌<◌, ◌++◌, length, map, IfOk, OnOk};
 ghost use Rattle.fo_formula.specs.declared.nodes.FoReason.TheVariants.{Rule, Link};
-ghost use Rattle.fo_table.specs.Small.{IsSmallSequent};
-ghost use Rattle.tableaux.specs.Fair.{AllOccur};
-ghost use Rattle.fold_offers.specs.Places.{each_place};
+ghost use Rattle.fo_formula.specs.Small.{IsSmallSequent};
+ghost use Rattle.derivations.specs.Fair.{AllOccur};
+ghost use Rattle.search_moves.specs.Places.{each_place};
 ghost use Rattle.derivations.specs.Effects.{LeavesOut};
-ghost use Rattle.fo_calculus.specs.Calculus.{links_to_node as reasons_to_node, links_at, rules_at, calculus_of};
-ghost use Rattle.fo_calculus.specs.Occurring.{MayOccur};
+ghost use Rattle.fo_search.specs.Calculus.{links_to_node as reasons_to_node, links_at, rules_at, calculus_of};
+ghost use Rattle.fo_search.specs.Occurring.{MayOccur};
 ghost use Rattle.fo_search.specs.Reasons.{reasons_left};
 
+use crate::moves::{links_to, rules_after, rules_before};
 use crate::reasons::RuleReasons;
-use cyc_limits::MOST_LINKS;
-use cyc_memory::OutOfMemory;
-use derivation_search::Offers;
+use cyc_basics::limits::MOST_LINKS;
+use cyc_basics::memory::OutOfMemory;
+use derivations::search::Offers;
+use derivations::tableaux::{MadeNode, OpenGoal};
 use fo_formula::{FoLink, FoReason, FoRule, FoSequent, FoTheory};
-use fo_moves::{links_to, rules_after, rules_before};
 use std::alloc::Global;
 use std::collections::VecDeque;
-use tableaux::{MadeNode, OpenGoal};
 
 /// The links to a node of this number; only to one whose rule is Unfold.
 fn links_to_node(
@@ -77,8 +77,8 @@ fn reasons_by(alloc: Global, rules: Vec<FoRule>) -> Result<VecDeque<FoReason>, O
     Ok(reasons)
 }
 
-/// The links to be tried, and the rules for the case that none of them is admitted; of these, some may be left out that leave
-/// more than `most` premises.
+/// The links to be tried, and the rules for the case that none of them is admitted; of these, some may be left out that
+/// leave more than `most` premises.
 pub fn offers_at<'a>(
     alloc: Global,
     theory: &'a FoTheory,

@@ -1,24 +1,24 @@
 // The search, depth by depth.
 ghost use Rattle.std.specs.Prelude.{◌≡◌, ◌<◌, ◌≤◌, [], IfOk};
-ghost use Rattle.derivation_search.specs.System.{search_of};
-ghost use Rattle.fo_calculus.specs.Occurring.{MayOccur};
+ghost use Rattle.derivations.specs.System.{search_of};
+ghost use Rattle.fo_search.specs.Occurring.{MayOccur};
 ghost use Rattle.derivations.specs.Derivations.{reasons_in};
 ghost use Rattle.fo_search.specs.Moves.{IsFirstOrder};
 ghost use Rattle.fo_search.specs.Outcomes.{search_for, outcome_of, IsFirst, IsProved};
 
 use crate::found::file_of;
 use crate::logic::FirstOrderSearch;
-use cyc_limits::MOST_NODES;
-use cyc_memory::OutOfMemory;
-use derivation_search::{Stop, search_depth};
+use cyc_basics::limits::MOST_NODES;
+use cyc_basics::memory::OutOfMemory;
 use derivations::Derivation;
+use derivations::search::{Stop, search_depth};
+use fo_file::values::FoProblem;
 use fo_formula::{FoFile, FoReason, FoSequent};
 use fo_logic::FirstOrder;
-use fo_values::FoProblem;
 use std::alloc::Global;
 
-/// What comes of a search: a proof; nothing, within the depth; or that a limit was met, on partial derivations of one depth
-/// or on product states.
+/// What comes of a search: a proof; nothing, within the depth; or that a limit was met, on partial derivations of one
+/// depth or on product states.
 #[derive(Drop)]
 pub enum FoProved {
     Found(FoFile),

@@ -1,13 +1,13 @@
 // The rules that a goal is offered, as reasons, told one by one.
-use cyc_memory::OutOfMemory;
-use derivation_search::Cursor;
+use crate::moves::RulesAfter;
+use cyc_basics::memory::OutOfMemory;
+use derivations::search::Cursor;
 use fo_formula::FoReason;
-use fo_moves::RulesAfter;
 use std::alloc::Global;
 use std::collections::VecDeque;
 
-/// The rules that a goal is offered: those that go before links, which are few and made already, or else those that come
-/// where no link is admitted.
+/// The rules that a goal is offered: those that go before links, which are few and made already, or else those that
+/// come where no link is admitted.
 #[derive(Drop)]
 pub enum RuleReasons<'a> {
     Before(VecDeque<FoReason>),

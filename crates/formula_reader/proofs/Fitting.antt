@@ -3,25 +3,28 @@ use Rattle.std.proofs.Common.{◌≡◌, ℕ, ◌+◌, ◌<◌, ◌≤◌, List,
 use Rattle.std.specs.Prelude.{nat_eq, nat_lt, nat_le, is_some, ◌||◌}
 use Rattle.std.specs.List.{list_any}
 use Rattle.std.specs.Str.{bytes_eq}
-use Rattle.cyc_lex.specs.declared.fault.What.TheVariants.{Arguments, Cases, Disjuncts, Predicates, ProgramVariables, Variable, Locals}
+use Rattle.cyc_lex.specs.declared.fault.What.TheVariants.{Arguments, Cases, Disjuncts, Predicates, ProgramVariables}
+use Rattle.cyc_lex.specs.declared.fault.What.TheVariants.{Variable, Locals}
 use Rattle.cyc_lex.specs.declared.fault.IllFault.TheVariants.{Parameter, Duplicate, NoLine}
 use Rattle.heap_syntax.specs.Versions.{most_spatial}
 use Rattle.heap_reader.specs.Trees.{Heading}
 use Rattle.heap_reader.specs.Spans.{heap_span}
 use Rattle.heap_reader.specs.Flaws.{ill_if, over_if, or_later, arity_in, heap_flaw, heaps_flaw}
-use Rattle.line_reader.specs.LineFlaws.{lines_flaw}
+use Rattle.heap_reader.specs.LineFlaws.{lines_flaw}
 use Rattle.heap_reader.specs.Small.{IsSmall, IsSmallHeap}
 use Rattle.heap_reader.proofs.NoFlaw.{neither, not_over, not_ill, at_most, below, each_of, few_all}
 use Rattle.heap_reader.proofs.Fitting.{most_fits, heap_small, heaps_small}
-use Rattle.line_reader.proofs.Programs.{lines_are_program}
-use Rattle.name_numbers.specs.declared.tree.NumberedTerm.{NumberedTerm}
-use Rattle.name_numbers.specs.declared.tree.NumberedTerm.TheVariants.{Nil, Universal, Existential}
-use Rattle.name_numbers.specs.Numbered.{Heap, Definition, Goal, Entailment, From, Problem}
+use Rattle.heap_reader.proofs.Programs.{lines_are_program}
+use Rattle.problem_syntax.specs.declared.numbering.tree.NumberedTerm.{NumberedTerm}
+use Rattle.problem_syntax.specs.declared.numbering.tree.NumberedTerm.TheVariants.{Nil, Universal, Existential}
+use Rattle.problem_syntax.specs.Numbered.{Heap, Definition, Goal, Entailment, From, Problem}
 use Rattle.formula_reader.specs.declared.terms.Scope.{Scope}
 use Rattle.formula_reader.specs.declared.terms.Scope.TheVariants.{Goal as InGoal, Case as InCase}
-use Rattle.formula_reader.specs.Spans.{term_span, variable_span, lines_span, parameter_span, parameters_span, definition_span, definitions_span}
-use Rattle.formula_reader.specs.Flaws.{headings, term_flaw, variable_flaw, parameter_flaw, parameters_flaw, head_flaw, cases_flaw, definition_flaw, definitions_flaw, goal_flaw, problem_flaw}
-use Rattle.line_reader.specs.Values.{variable_value}
+use Rattle.formula_reader.specs.Spans.{term_span, variable_span, lines_span, parameter_span, parameters_span}
+use Rattle.formula_reader.specs.Spans.{definition_span, definitions_span}
+use Rattle.formula_reader.specs.Flaws.{headings, term_flaw, variable_flaw, parameter_flaw, parameters_flaw, head_flaw}
+use Rattle.formula_reader.specs.Flaws.{cases_flaw, definition_flaw, definitions_flaw, goal_flaw, problem_flaw}
+use Rattle.heap_reader.specs.LineValues.{variable_value}
 use Rattle.formula_reader.specs.Values.{term_value}
 use Rattle.formula_reader.specs.Small.{IsSmallDefinition, HasDisjunct, IsSmallGoal, IsSmallProblem}
 
@@ -30,40 +33,55 @@ abbrev pub IsNarrow : Scope → Type 0
 IsNarrow InGoal = Unit {0}
 IsNarrow (InCase arity) = arity ≤ 8
 
-pub term_small : (scope : Scope) → IsNarrow scope → (k : ℕ) (t : NumberedTerm) → term_flaw scope k t ≡ None → IsSmall term_value t
+pub term_small : (scope : Scope) → IsNarrow scope → (k : ℕ) (t : NumberedTerm) → term_flaw scope k t ≡ None
+    → IsSmall term_value t
 term_small scope narrow k Nil e = tt
 term_small InGoal narrow k (Universal n primed) e = let h = at_most 65534 n (not_over _ Variable k e) in omega arith
 term_small InGoal narrow k (Existential n primed) e = let h = at_most 65534 n (not_over _ Variable k e) in omega arith
-term_small (InCase arity) narrow k (Universal n primed) e = let h = below arity n (not_ill _ Parameter k e) in omega arith
-term_small (InCase arity) narrow k (Existential n primed) e = let h = at_most 15 n (not_over _ Locals k e) in omega arith
+term_small (InCase arity) narrow k (Universal n primed) e = let h = below arity n (not_ill _ Parameter k e) in
+    omega arith
+term_small (InCase arity) narrow k (Existential n primed) e = let h = at_most 15 n (not_over _ Locals k e) in
+    omega arith
 
 pub parameters_few : (k : ℕ) (ps : List (List ℕ)) → parameters_flaw k ps ≡ None → length ps ≤ 8
 parameters_few k ps e =
-    few_all (parameter_flaw ps) parameter_span 8 (λ n j s h. below 8 n (not_over _ Arguments j (neither (ill_if (list_any (bytes_eq s) (take n ps)) Duplicate j) (over_if (nat_le 8 n) Arguments j) h).1)) k ps e
+    few_all (parameter_flaw ps) parameter_span 8 (λ n j s h.
+    below 8 n (not_over _ Arguments j (neither (ill_if (list_any (bytes_eq s) (take n ps)) Duplicate j)
+    (over_if (nat_le 8 n) Arguments j) h).1)) k ps e
 
-goal_heap_small : (most : ℕ) → most ≤ 32 → (hs : List Heading) (k : ℕ) (h : Heap) → heap_flaw (term_flaw InGoal) term_span most hs k h ≡ None → IsSmallHeap term_value h
-goal_heap_small most few hs k h e = heap_small (term_flaw InGoal) term_span term_value (term_small InGoal tt) most few hs k h e
+goal_heap_small : (most : ℕ) → most ≤ 32 → (hs : List Heading) (k : ℕ) (h : Heap)
+    → heap_flaw (term_flaw InGoal) term_span most hs k h ≡ None → IsSmallHeap term_value h
+goal_heap_small most few hs k h e = heap_small (term_flaw InGoal) term_span term_value (term_small InGoal tt)
+    most few hs k h e
 
 module _ (most : ℕ) (few : most ≤ 32) (hs : List Heading) where
-  pub definition_small : (n k : ℕ) (d : Definition) → definition_flaw most hs n k d ≡ None → (n < 4096) × IsSmallDefinition d
+  pub definition_small : (n k : ℕ) (d : Definition) → definition_flaw most hs n k d ≡ None
+      → (n < 4096) × IsSmallDefinition d
   definition_small n k d e =
       let p = k + 3 + parameters_span d.parameters + 1 in
       let arity = length d.parameters in
       let a = neither (head_flaw hs n k d) (cases_flaw most hs arity p d.cases) e in
-      let b = neither (over_if (nat_le 4096 n) Predicates k) (or_later (ill_if (is_some (arity_in (take n hs) d.name)) Duplicate (k + 1)) (parameters_flaw (k + 3) d.parameters)) a.0 in
-      let c = neither (ill_if (is_some (arity_in (take n hs) d.name)) Duplicate (k + 1)) (parameters_flaw (k + 3) d.parameters) b.1 in
+      let b = neither (over_if (nat_le 4096 n) Predicates k)
+      (or_later (ill_if (is_some (arity_in (take n hs) d.name)) Duplicate (k + 1))
+      (parameters_flaw (k + 3) d.parameters)) a.0 in
+      let c = neither (ill_if (is_some (arity_in (take n hs) d.name)) Duplicate (k + 1))
+      (parameters_flaw (k + 3) d.parameters) b.1 in
       let narrow = parameters_few (k + 3) d.parameters c.1 in
-      let cases = heaps_small (term_flaw (InCase arity)) term_span term_value (term_small (InCase arity) narrow) most few hs Cases p d.cases a.1 in
+      let cases = heaps_small (term_flaw (InCase arity)) term_span term_value (term_small (InCase arity) narrow)
+      most few hs Cases p d.cases a.1 in
       (below 4096 n (not_over _ Predicates k b.0), record { parameters = narrow; cases = cases.0; few = cases.1 })
 
   goal_small : (count k : ℕ) (g : Goal) → HasDisjunct g → goal_flaw most hs count k g ≡ None → IsSmallGoal g
   goal_small count k (Entailment h ds) some e =
       let p = k + 1 + heap_span term_span h in
-      let a = neither (heap_flaw (term_flaw InGoal) term_span most hs (k + 1) h) (heaps_flaw (term_flaw InGoal) term_span most hs Disjuncts p ds) e in
-      let heaps = heaps_small (term_flaw InGoal) term_span term_value (term_small InGoal tt) most few hs Disjuncts p ds a.1 in
+      let a = neither (heap_flaw (term_flaw InGoal) term_span most hs (k + 1) h)
+      (heaps_flaw (term_flaw InGoal) term_span most hs Disjuncts p ds) e in
+      let heaps = heaps_small (term_flaw InGoal) term_span term_value (term_small InGoal tt)
+      most few hs Disjuncts p ds a.1 in
       (goal_heap_small most few hs (k + 1) h a.0, record { heaps = heaps.0; some = some; few = heaps.1 })
   goal_small count k (From n h) some e =
-      let a = neither (ill_if (nat_eq n 0 || nat_lt count n) NoLine (k + 2)) (heap_flaw (term_flaw InGoal) term_span most hs (k + 4) h) e in
+      let a = neither (ill_if (nat_eq n 0 || nat_lt count n) NoLine (k + 2))
+      (heap_flaw (term_flaw InGoal) term_span most hs (k + 4) h) e in
       goal_heap_small most few hs (k + 4) h a.1
 
 variable_few : (k v : ℕ) → variable_flaw k v ≡ None → v < 64
@@ -77,11 +95,16 @@ problem_small p some e =
     let hs = headings p.definitions in
     let at = 4 + definitions_span p.definitions in
     let goal_at = at + lines_span p.lines in
-    let a = neither (definitions_flaw most hs 4 p.definitions) (or_later (lines_flaw variable_flaw variable_span at p.lines) (goal_flaw most hs (length p.lines) goal_at p.goal)) e in
-    let b = neither (lines_flaw variable_flaw variable_span at p.lines) (goal_flaw most hs (length p.lines) goal_at p.goal) a.1 in
+    let a = neither (definitions_flaw most hs 4 p.definitions)
+    (or_later (lines_flaw variable_flaw variable_span at p.lines)
+    (goal_flaw most hs (length p.lines) goal_at p.goal)) e in
+    let b = neither (lines_flaw variable_flaw variable_span at p.lines)
+    (goal_flaw most hs (length p.lines) goal_at p.goal) a.1 in
     record {
-      definitions = each_of (definition_flaw most hs) definition_span IsSmallDefinition (λ n k d h. (definition_small most few hs n k d h).1) 0 4 p.definitions a.0;
-      few = few_all (definition_flaw most hs) definition_span 4096 (λ n k d h. (definition_small most few hs n k d h).0) 4 p.definitions a.0;
+      definitions = each_of (definition_flaw most hs) definition_span IsSmallDefinition
+          (λ n k d h. (definition_small most few hs n k d h).1) 0 4 p.definitions a.0;
+      few = few_all (definition_flaw most hs) definition_span 4096 (λ n k d h. (definition_small most few hs n k d h).0)
+          4 p.definitions a.0;
       program = lines_are_program variable_flaw variable_span variable_value variable_few at p.lines b.0;
       goal = goal_small most few hs (length p.lines) goal_at p.goal some b.1;
     }

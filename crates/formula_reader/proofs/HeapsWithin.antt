@@ -9,12 +9,13 @@ use Rattle.heap_formula.specs.declared.atoms.Spatial.{Spatial as SpatialAtom}
 use Rattle.heap_formula.specs.declared.atoms.Spatial.TheVariants as atoms
 use Rattle.heap_formula.specs.Closedness.{InPure, InSpatial, InHeap}
 use Rattle.heap_formula.specs.Definitions.{Definition}
-use Rattle.heap_formula.specs.Fresh.{univ_bound, exist_bound, pure_bound, spatial_bound, heap_bound, pure_exists, spatial_exists, heap_exists}
+use Rattle.heap_formula.specs.Fresh.{univ_bound, exist_bound, pure_bound, spatial_bound, heap_bound, pure_exists}
+use Rattle.heap_formula.specs.Fresh.{spatial_exists, heap_exists}
 use Rattle.heap_formula.specs.Symbolic.{SymbolicHeap}
 use Rattle.heap_formula.specs.Words.{Each}
 use Rattle.pred_defs.specs.Faults.{case_fault}
-use Rattle.format_limits.specs.Limits.{HasFields, IsHeapWithin}
-use Rattle.format_limits.proofs.Heaps.{IsLow, are_shaped, within}
+use Rattle.rule_book.specs.Limits.{HasFields, IsHeapWithin}
+use Rattle.rule_book.proofs.Heaps.{IsLow, are_shaped, within}
 use Rattle.cyc_lex.specs.declared.fault.What.TheVariants.{Arguments, Pure as PureAtoms, Spatial as SpatialAtoms}
 use Rattle.heap_syntax.specs.declared.tree.PureTree.{PureTree}
 use Rattle.heap_syntax.specs.Trees.{Spatial, Cell, Predicate, Heap}
@@ -25,53 +26,67 @@ use Rattle.problem_syntax.specs.Trees.{Nil, Plain, Primed}
 use Rattle.problem_syntax.specs.Grammar.{terms, behind_name, spatial, heap}
 use Rattle.heap_reader.specs.Trees.{Heading}
 use Rattle.heap_reader.specs.Spans.{pure_span, pures_span, spatial_span}
-use Rattle.heap_reader.specs.Flaws.{Found, over_if, or_later, listed_flaw, argument_flaw, arguments_flaw, pure_flaw, arity_in, use_flaw, spatial_flaw, heap_flaw}
+use Rattle.heap_reader.specs.Flaws.{Found, over_if, or_later, listed_flaw, argument_flaw, arguments_flaw, pure_flaw}
+use Rattle.heap_reader.specs.Flaws.{arity_in, use_flaw, spatial_flaw, heap_flaw}
 use Rattle.heap_reader.specs.Small.{IsSmallSpatial, IsSmallHeap}
 use Rattle.heap_reader.specs.Values.{pure_value, spatial_value, heap_value}
 use Rattle.heap_reader.proofs.NoFlaw.{neither, each_of as each_flawless}
-use Rattle.name_numbers.specs.Numbering as numbers
+use Rattle.problem_syntax.specs.Numbering as numbers
 use Rattle.formula_reader.specs.Values.{term_value}
-use Rattle.formula_facts.proofs.AllMembers.{each_imply, each_mapped}
-use Rattle.formula_facts.proofs.Greatest.{below_each}
+use Rattle.heap_formula.proofs.AllMembers.{each_imply, each_mapped}
+use Rattle.heap_formula.proofs.Greatest.{below_each}
 use Rattle.heap_reader.proofs.Members.{behind_fit}
 
 -- ---- what holds of each term without a flaw holds of the terms of a heap without one
 
-module _ {T : Type 0} (flaw : ℕ → T → Found) (span : T → ℕ) (value : T → Term) (Q : Term → Type 0) (one : (k : ℕ) (t : T) → flaw k t ≡ None → Q (value t)) where
+module _ {T : Type 0} (flaw : ℕ → T → Found) (span : T → ℕ) (value : T → Term) (Q : Term → Type 0)
+    (one : (k : ℕ) (t : T) → flaw k t ≡ None → Q (value t)) where
   arguments_keep : (k : ℕ) (ts : List T) → arguments_flaw flaw span k ts ≡ None → Each Q (map value ts)
   arguments_keep k ts e =
-      each_mapped Q value ts (each_flawless (argument_flaw flaw span) span (λ t. Q (value t)) (λ n j t h. one j t (neither (over_if (nat_le 8 n) Arguments j) (flaw j t) h).1) 0 k ts e)
+      each_mapped Q value ts (each_flawless (argument_flaw flaw span) span (λ t. Q (value t))
+      (λ n j t h. one j t (neither (over_if (nat_le 8 n) Arguments j) (flaw j t) h).1) 0 k ts e)
 
   pure_keeps : (x : PureTree T) → Q (value x.left) → Q (value x.right) → InPure Q (pure_value value x)
   pure_keeps x left right = by_sign x.is_equation
     where
-      by_sign : (b : Bool) → InPure Q (if b then Eq (value x.left) (value x.right) else Neq (value x.left) (value x.right))
+      by_sign : (b : Bool) → InPure Q (if b then Eq (value x.left) (value x.right) else Neq (value x.left)
+          (value x.right))
       by_sign true = (left, right)
       by_sign false = (left, right)
 
-  pures_keep : (k : ℕ) (xs : List (PureTree T)) → listed_flaw (pure_flaw flaw span) (pure_span span) 0 k xs ≡ None → Each (InPure Q) (map (pure_value value) xs)
+  pures_keep : (k : ℕ) (xs : List (PureTree T)) → listed_flaw (pure_flaw flaw span) (pure_span span) 0 k xs ≡ None
+      → Each (InPure Q) (map (pure_value value) xs)
   pures_keep k xs e =
-      each_mapped (InPure Q) (pure_value value) xs (each_flawless (pure_flaw flaw span) (pure_span span) (λ x. InPure Q (pure_value value x)) (λ n j x h.
-      let sides = neither (flaw j x.left) (flaw (j + span x.left) x.right) (neither (over_if (nat_le 64 n) PureAtoms j) (or_later (flaw j x.left) (flaw (j + span x.left) x.right)) h).1 in
+      each_mapped (InPure Q) (pure_value value) xs
+      (each_flawless (pure_flaw flaw span) (pure_span span) (λ x. InPure Q (pure_value value x)) (λ n j x h.
+      let sides = neither (flaw j x.left) (flaw (j + span x.left) x.right)
+      (neither (over_if (nat_le 64 n) PureAtoms j) (or_later (flaw j x.left) (flaw (j + span x.left) x.right)) h).1
+      in
       pure_keeps x (one j x.left sides.0) (one (j + span x.left) x.right sides.1)) 0 k xs e)
 
   module _ (limit : ℕ) (hs : List Heading) where
-    spatial_keeps : (n k : ℕ) (x : Spatial T) → spatial_flaw flaw span limit hs n k x ≡ None → InSpatial Q (spatial_value value hs x)
+    spatial_keeps : (n k : ℕ) (x : Spatial T) → spatial_flaw flaw span limit hs n k x ≡ None
+        → InSpatial Q (spatial_value value hs x)
     spatial_keeps n k (Cell t ts) e =
-        let a = neither (over_if (nat_le limit n) SpatialAtoms k) (or_later (flaw k t) (arguments_flaw flaw span (k + span t + 1) ts)) e in
+        let a = neither (over_if (nat_le limit n) SpatialAtoms k)
+        (or_later (flaw k t) (arguments_flaw flaw span (k + span t + 1) ts)) e in
         let b = neither (flaw k t) (arguments_flaw flaw span (k + span t + 1) ts) a.1 in
         (one k t b.0, arguments_keep (k + span t + 1) ts b.1)
     spatial_keeps n k (Predicate name ts) e =
-        let a = neither (use_flaw (arity_in hs name) (length ts) k) (or_later (over_if (nat_le limit n) SpatialAtoms k) (arguments_flaw flaw span (k + 2) ts)) e in
+        let a = neither (use_flaw (arity_in hs name) (length ts) k)
+        (or_later (over_if (nat_le limit n) SpatialAtoms k) (arguments_flaw flaw span (k + 2) ts)) e in
         let b = neither (over_if (nat_le limit n) SpatialAtoms k) (arguments_flaw flaw span (k + 2) ts) a.1 in
         arguments_keep (k + 2) ts b.1
 
     pub heap_keeps : (k : ℕ) (h : Heap T) → heap_flaw flaw span limit hs k h ≡ None → InHeap Q (heap_value value hs h)
     heap_keeps k h e =
         let p = k + pures_span span h.pure in
-        let a = neither (listed_flaw (pure_flaw flaw span) (pure_span span) 0 k h.pure) (listed_flaw (spatial_flaw flaw span limit hs) (spatial_span span) 0 p h.spatial) e in (
+        let a = neither (listed_flaw (pure_flaw flaw span) (pure_span span) 0 k h.pure)
+        (listed_flaw (spatial_flaw flaw span limit hs) (spatial_span span) 0 p h.spatial) e in (
           pures_keep k h.pure a.0,
-          each_mapped (InSpatial Q) (spatial_value value hs) h.spatial (each_flawless (spatial_flaw flaw span limit hs) (spatial_span span) (λ x. InSpatial Q (spatial_value value hs x)) spatial_keeps 0 p h.spatial a.1),
+          each_mapped (InSpatial Q) (spatial_value value hs) h.spatial
+              (each_flawless (spatial_flaw flaw span limit hs) (spatial_span span)
+              (λ x. InSpatial Q (spatial_value value hs x)) spatial_keeps 0 p h.spatial a.1),
         )
 
 -- ---- a fact of each term as a bound of the heap
@@ -86,8 +101,10 @@ module _ (P Q : Term → Type 0) (g : (t : Term) → P t → Q t) where
   in_spatial_each (atoms.Pred q ts) p = each_imply P Q g ts p
 
   pub in_heap_each : (a : SymbolicHeap) → InHeap P a → InHeap Q a
-  in_heap_each a p =
-      (each_imply (InPure P) (InPure Q) in_pure_each a.pure p.0, each_imply (InSpatial P) (InSpatial Q) in_spatial_each a.spatial p.1)
+  in_heap_each a p = (
+    each_imply (InPure P) (InPure Q) in_pure_each a.pure p.0,
+    each_imply (InSpatial P) (InSpatial Q) in_spatial_each a.spatial p.1,
+  )
 
 module _ (m : ℕ) where
   pure_bounded : (x : Pure) → InPure (λ t. univ_bound t ≤ m) x → pure_bound x ≤ m
@@ -100,8 +117,10 @@ module _ (m : ℕ) where
 
   pub heap_bounded : (a : SymbolicHeap) → InHeap (λ t. univ_bound t ≤ m) a → heap_bound a ≤ m
   heap_bounded a q =
-      let p = below_each pure_bound m a.pure (each_imply (InPure (λ t. univ_bound t ≤ m)) (λ x. pure_bound x ≤ m) pure_bounded a.pure q.0) in
-      let s = below_each spatial_bound m a.spatial (each_imply (InSpatial (λ t. univ_bound t ≤ m)) (λ x. spatial_bound x ≤ m) spatial_bounded a.spatial q.1) in
+      let p = below_each pure_bound m a.pure (each_imply (InPure (λ t. univ_bound t ≤ m)) (λ x. pure_bound x ≤ m)
+      pure_bounded a.pure q.0) in
+      let s = below_each spatial_bound m a.spatial
+      (each_imply (InSpatial (λ t. univ_bound t ≤ m)) (λ x. spatial_bound x ≤ m) spatial_bounded a.spatial q.1) in
       omega arith
 
   pure_open : (x : Pure) → InPure (λ t. exist_bound t ≤ m) x → pure_exists x ≤ m
@@ -114,8 +133,10 @@ module _ (m : ℕ) where
 
   pub heap_open : (a : SymbolicHeap) → InHeap (λ t. exist_bound t ≤ m) a → heap_exists a ≤ m
   heap_open a q =
-      let p = below_each pure_exists m a.pure (each_imply (InPure (λ t. exist_bound t ≤ m)) (λ x. pure_exists x ≤ m) pure_open a.pure q.0) in
-      let s = below_each spatial_exists m a.spatial (each_imply (InSpatial (λ t. exist_bound t ≤ m)) (λ x. spatial_exists x ≤ m) spatial_open a.spatial q.1) in
+      let p = below_each pure_exists m a.pure (each_imply (InPure (λ t. exist_bound t ≤ m)) (λ x. pure_exists x ≤ m)
+      pure_open a.pure q.0) in
+      let s = below_each spatial_exists m a.spatial
+      (each_imply (InSpatial (λ t. exist_bound t ≤ m)) (λ x. spatial_exists x ≤ m) spatial_open a.spatial q.1) in
       omega arith
 
 -- ---- a cell of a text has a field
@@ -135,8 +156,11 @@ module _ (b : Bool) where
   atoms_have_fields : (xs : List named.Spatial) → (shared.spatials (terms b) (spatial b)).fits xs → Each HasField xs
   unfolding shared.spatials shared.spatials1
   atoms_have_fields [] f = tt
-  atoms_have_fields (x ∷ xs) f =
-      (atom_has_field x f.1.1.0, each_imply (spatial b).fits HasField atom_has_field xs (behind_fit star (spatial b) xs f.1.1.1))
+  atoms_have_fields (x ∷ xs) f = (
+    atom_has_field x f.1.1.0,
+    each_imply (spatial b).fits HasField atom_has_field xs
+        (behind_fit star (spatial b) xs f.1.1.1),
+  )
 
   heap_has_fields : (h : named.Heap) → (heap b).fits h → Each HasField h.spatial
   unfolding shared.heap
@@ -145,7 +169,8 @@ module _ (b : Bool) where
 -- ---- a heap of a text without a flaw is within the limits
 
 module _ (limit : ℕ) (hs : List Heading) (scope : numbers.Scope) where
-  fields_kept : (x : named.Spatial) → HasField x → IsSmallSpatial term_value (numbers.spatial scope x) → HasFields (spatial_value term_value hs (numbers.spatial scope x))
+  fields_kept : (x : named.Spatial) → HasField x → IsSmallSpatial term_value (numbers.spatial scope x)
+      → HasFields (spatial_value term_value hs (numbers.spatial scope x))
   fields_kept (Cell t ts) some small =
       let m = length-map ts (numbers.term scope) in
       let n = length-map (map (numbers.term scope) ts) term_value in
@@ -153,11 +178,17 @@ module _ (limit : ℕ) (hs : List Heading) (scope : numbers.Scope) where
       (omega arith, omega arith)
   fields_kept (Predicate name ts) some small = tt
 
-  all_fields_kept : (xs : List named.Spatial) → Each HasField xs → Each (IsSmallSpatial term_value) (map (numbers.spatial scope) xs) → Each HasFields (map (spatial_value term_value hs) (map (numbers.spatial scope) xs))
+  all_fields_kept : (xs : List named.Spatial) → Each HasField xs
+      → Each (IsSmallSpatial term_value) (map (numbers.spatial scope) xs)
+      → Each HasFields (map (spatial_value term_value hs) (map (numbers.spatial scope) xs))
   all_fields_kept [] some small = tt
   all_fields_kept (x ∷ xs) some small = (fields_kept x some.0 small.0, all_fields_kept xs some.1 small.1)
 
-  pub heap_within : (ds : List Definition) (b : Bool) (h : named.Heap) → (heap b).fits h → IsSmallHeap term_value (numbers.heap scope h) → length (numbers.heap scope h).spatial ≤ limit → InHeap IsLow (heap_value term_value hs (numbers.heap scope h)) → case_fault ds (heap_value term_value hs (numbers.heap scope h)) ≡ None → IsHeapWithin limit ds (heap_value term_value hs (numbers.heap scope h))
+  pub heap_within : (ds : List Definition) (b : Bool) (h : named.Heap) → (heap b).fits h
+      → IsSmallHeap term_value (numbers.heap scope h) → length (numbers.heap scope h).spatial ≤ limit
+      → InHeap IsLow (heap_value term_value hs (numbers.heap scope h))
+      → case_fault ds (heap_value term_value hs (numbers.heap scope h)) ≡ None
+      → IsHeapWithin limit ds (heap_value term_value hs (numbers.heap scope h))
   heap_within ds b h fits small short low known =
       let tree = numbers.heap scope h in
       let a = heap_value term_value hs tree in

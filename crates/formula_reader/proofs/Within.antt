@@ -1,5 +1,6 @@
 -- What a text without a flaw says is within the limits of the formats, in terms of its values.
-use Rattle.std.proofs.Common.{◌≡◌, ℕ, ◌+◌, ◌<◌, ◌≤◌, Bool, true, false, List, [], ◌∷◌, length, map, Option, Some, None, refl, sym, subst, arith}
+use Rattle.std.proofs.Common.{◌≡◌, ℕ, ◌+◌, ◌<◌, ◌≤◌, Bool, true, false, List, [], ◌∷◌, length, map, Option, Some, None}
+use Rattle.std.proofs.Common.{refl, sym, subst, arith}
 use Rattle.std.specs.Prelude.{not, ◌||◌, nat_eq, nat_lt, nat_le}
 use Rattle.std.proofs.Math.Logic.{∥∥₁_elim}
 use Rattle.std.proofs.lemmas.Bool.{ltb-false, or_parts, eqb-false}
@@ -16,8 +17,8 @@ use Rattle.goto_lang.specs.Lines.{IsLineOf}
 use Rattle.goto_lang.proofs.Faultless.{faultless_is_program}
 use Rattle.pred_defs.specs.declared.faults.DefFault.{DefFault}
 use Rattle.pred_defs.specs.Faults.{case_fault, definition_fault, first_fault, or_later as then_fault}
-use Rattle.format_limits.specs.Limits.{IsHeapWithin, IsJudgementWithin, IsCaseWithin, IsDefinitionWithin}
-use Rattle.format_limits.proofs.Heaps.{IsLow}
+use Rattle.rule_book.specs.Limits.{IsHeapWithin, IsJudgementWithin, IsCaseWithin, IsDefinitionWithin}
+use Rattle.rule_book.proofs.Heaps.{IsLow}
 use Rattle.cyc_lex.specs.declared.fault.What.TheVariants.{Cases, Disjuncts, Locals, Variable}
 use Rattle.cyc_lex.specs.declared.fault.IllFault.TheVariants.{NoLine, Parameter}
 use Rattle.cyc_grammar.specs.Syntax.{Syntax, Class}
@@ -26,41 +27,44 @@ use Rattle.heap_syntax.specs.Grammar as shared
 use Rattle.heap_syntax.specs.Words.{reserved, bar, closing_brace, or_word, semicolon}
 use Rattle.heap_syntax.specs.Trees.{Heap as AnyHeap}
 use Rattle.problem_syntax.specs.Trees as named
-use Rattle.problem_syntax.specs.Grammar.{heap, cases, definition, definitions, disjuncts, state, entailment, goal, last_part, body, problem}
+use Rattle.problem_syntax.specs.Grammar.{heap, cases, definition, definitions, disjuncts, state, entailment, goal}
+use Rattle.problem_syntax.specs.Grammar.{last_part, body, problem}
 use Rattle.heap_reader.specs.Trees.{Heading}
 use Rattle.heap_reader.specs.Spans.{heap_span}
 use Rattle.heap_reader.specs.Flaws.{ill_if, over_if, or_later, heap_flaw, counted_flaw, heaps_flaw}
-use Rattle.line_reader.specs.LineFlaws.{lines_flaw}
+use Rattle.heap_reader.specs.LineFlaws.{lines_flaw}
 use Rattle.heap_reader.specs.Small.{IsSmallHeap}
 use Rattle.heap_reader.specs.Values.{heap_value}
-use Rattle.line_reader.specs.Values.{line_value, variable_value, program_value}
-use Rattle.line_reader.proofs.Programs.{lines_universal}
+use Rattle.heap_reader.specs.LineValues.{line_value, variable_value, program_value}
+use Rattle.heap_reader.proofs.Programs.{lines_universal}
 use Rattle.heap_syntax.specs.Versions.{most_spatial}
 use Rattle.heap_reader.proofs.Fitting.{most_fits, heap_few, heaps_few}
 use Rattle.heap_reader.proofs.NoFlaw.{neither, not_over, not_ill, at_most, below, each_of as each_flawless}
-use Rattle.name_numbers.specs.declared.tree.NumberedTerm.{NumberedTerm}
-use Rattle.name_numbers.specs.declared.tree.NumberedTerm.TheVariants.{Nil, Universal, Existential}
-use Rattle.name_numbers.specs.Names.{Name, firsts}
-use Rattle.name_numbers.specs.Occurrences.{primed_names}
-use Rattle.name_numbers.specs.Numbered.{Heap, Definition, Problem}
-use Rattle.name_numbers.specs.Numbering as numbers
-use Rattle.name_numbers.specs.Numbering.{numbered}
+use Rattle.problem_syntax.specs.declared.numbering.tree.NumberedTerm.{NumberedTerm}
+use Rattle.problem_syntax.specs.declared.numbering.tree.NumberedTerm.TheVariants.{Nil, Universal, Existential}
+use Rattle.problem_syntax.specs.Names.{Name, firsts}
+use Rattle.problem_syntax.specs.Occurrences.{primed_names}
+use Rattle.problem_syntax.specs.Numbered.{Heap, Definition, Problem}
+use Rattle.problem_syntax.specs.Numbering as numbers
+use Rattle.problem_syntax.specs.Numbering.{numbered}
 use Rattle.formula_reader.specs.declared.problem.Problem.{Problem as ProblemValue}
 use Rattle.formula_reader.specs.declared.terms.Scope.TheVariants.{Goal as InGoal, Case as InCase}
-use Rattle.formula_reader.specs.Spans.{term_span, variable_span, lines_span, parameters_span, definition_span, definitions_span}
-use Rattle.formula_reader.specs.Flaws.{headings, term_flaw, variable_flaw, head_flaw, cases_flaw, definition_flaw, definitions_flaw, goal_flaw, problem_flaw}
+use Rattle.formula_reader.specs.Spans.{term_span, variable_span, lines_span, parameters_span, definition_span}
+use Rattle.formula_reader.specs.Spans.{definitions_span}
+use Rattle.formula_reader.specs.Flaws.{headings, term_flaw, variable_flaw, head_flaw, cases_flaw, definition_flaw}
+use Rattle.formula_reader.specs.Flaws.{definitions_flaw, goal_flaw, problem_flaw}
 use Rattle.formula_reader.specs.Small.{IsSmallDefinition, IsSmallGoal}
 use Rattle.formula_reader.specs.Values.{term_value, definition_value, goal_value}
-use Rattle.value_limits.proofs.Universal.{universal_heap}
+use Rattle.formula_reader.proofs.Universal.{universal_heap}
 use Rattle.formula_reader.specs.Problems.{IsOfText, goal_fault, has_line}
 use Rattle.formula_reader.proofs.Fitting.{definition_small}
 use Rattle.formula_reader.proofs.Keeping.{small_of, is_closed, is_known, has_universal_antecedent, has_its_line}
 use Rattle.formula_reader.proofs.HeapsWithin.{heap_keeps, in_heap_each, heap_bounded, heap_open, heap_within}
 use Rattle.formula_reader.proofs.OwnNames.{own_names}
 use Rattle.formula_reader.proofs.LinesWithin.{lines_known}
-use Rattle.value_limits.specs.Within.{IsProblemWithin}
-use Rattle.value_limits.proofs.OneWay.{within_prop}
-use Rattle.formula_facts.proofs.AllMembers.{each_at}
+use Rattle.formula_reader.specs.Within.{IsProblemWithin}
+use Rattle.formula_reader.proofs.OneWay.{within_prop}
+use Rattle.heap_formula.proofs.AllMembers.{each_at}
 use Rattle.heap_reader.proofs.Members.{many_fit, behind_fit}
 use Rattle.rule_table.specs.Tests.{is_universal_heap}
 
@@ -71,12 +75,14 @@ each_right : {X : Type 0} (f : X → Option DefFault) (xs : List X) → first_fa
 each_right f [] e = tt
 each_right f (x ∷ xs) e = by_fault (f x) refl e (each_right f xs)
   where
-    by_fault : (o : Option DefFault) → f x ≡ o → then_fault o (first_fault f xs) ≡ None → (first_fault f xs ≡ None → Each (λ y. f y ≡ None) xs) → (f x ≡ None) × Each (λ y. f y ≡ None) xs
+    by_fault : (o : Option DefFault) → f x ≡ o → then_fault o (first_fault f xs) ≡ None
+        → (first_fault f xs ≡ None → Each (λ y. f y ≡ None) xs) → (f x ≡ None) × Each (λ y. f y ≡ None) xs
     by_fault None h g rest = (h, rest g)
     by_fault (Some fault) h g rest = absurd cc
 
 -- a list of heaps of a text has a member, and each has a text
-heaps_parts : {T : Type 0} (between behind : Class (Unit {0})) (a : Syntax (AnyHeap T)) (xs : List (AnyHeap T)) → (shared.heaps between behind a).fits xs → (0 < length xs) × Each a.fits xs
+heaps_parts : {T : Type 0} (between behind : Class (Unit {0})) (a : Syntax (AnyHeap T)) (xs : List (AnyHeap T))
+    → (shared.heaps between behind a).fits xs → (0 < length xs) × Each a.fits xs
 unfolding shared.listed
 heaps_parts between behind a [] f = let none = f.0 in absurd (omega arith)
 heaps_parts between behind a (x ∷ xs) f = (f.0, (f.1.0, behind_fit between a xs f.1.1))
@@ -89,7 +95,8 @@ record IsCaseTerm (arity : ℕ) (t : Term) : Type 0 where
   parameter : univ_bound t ≤ arity
   few : exist_bound t ≤ 16
 
-case_term : (arity : ℕ) → arity ≤ 8 → (k : ℕ) (t : NumberedTerm) → term_flaw (InCase arity) k t ≡ None → IsCaseTerm arity (term_value t)
+case_term : (arity : ℕ) → arity ≤ 8 → (k : ℕ) (t : NumberedTerm) → term_flaw (InCase arity) k t ≡ None
+    → IsCaseTerm arity (term_value t)
 case_term arity narrow k Nil e = record { low = omega arith; parameter = omega arith; few = omega arith }
 case_term arity narrow k (Universal n primed) e =
     let h = below arity n (not_ill (nat_le arity n) Parameter k e) in
@@ -124,27 +131,45 @@ module _ (limit : ℕ) (bounded : limit ≤ 32) (hs : List Heading) where
       record {
         small = small;
         short = heaps_few (term_flaw (InCase arity)) term_span limit hs Cases p d.cases a.1;
-        terms = each_flawless (counted_flaw (term_flaw (InCase arity)) term_span limit hs Cases) (heap_span term_span) (HasCaseTerms arity) (λ m j c g. heap_keeps (term_flaw (InCase arity)) term_span term_value (IsCaseTerm arity) (case_term arity small.parameters) limit hs j c (neither (over_if (nat_le 16 m) Cases j) (heap_flaw (term_flaw (InCase arity)) term_span limit hs j c) g).1) 0 p d.cases a.1;
+        terms = each_flawless (counted_flaw (term_flaw (InCase arity)) term_span limit hs Cases) (heap_span term_span)
+            (HasCaseTerms arity) (λ m j c g. heap_keeps (term_flaw (InCase arity)) term_span term_value
+            (IsCaseTerm arity) (case_term arity small.parameters) limit hs j c
+            (neither (over_if (nat_le 16 m) Cases j) (heap_flaw (term_flaw (InCase arity)) term_span limit hs j c) g).1)
+            0 p d.cases a.1;
       }
 
   module _ (ds : List DefinitionValue) where
-    case_within : (ps : List Name) (arity : ℕ) (h : named.Heap) → (heap false).fits h → IsSmallHeap term_value (numbers.case ps h) → length (numbers.case ps h).spatial ≤ limit → HasCaseTerms arity (numbers.case ps h) → case_fault ds (heap_value term_value hs (numbers.case ps h)) ≡ None → IsCaseWithin limit ds arity (heap_value term_value hs (numbers.case ps h))
+    case_within : (ps : List Name) (arity : ℕ) (h : named.Heap) → (heap false).fits h
+        → IsSmallHeap term_value (numbers.case ps h) → length (numbers.case ps h).spatial ≤ limit
+        → HasCaseTerms arity (numbers.case ps h) → case_fault ds (heap_value term_value hs (numbers.case ps h)) ≡ None
+        → IsCaseWithin limit ds arity (heap_value term_value hs (numbers.case ps h))
     unfolding numbers.case
     case_within ps arity h fits small short terms known =
         let scope = numbers.Case ps (numbers.locals ps h) in
         let a = heap_value term_value hs (numbers.heap scope h) in
         record {
-          heap = heap_within limit hs scope ds false h fits small short (in_heap_each (IsCaseTerm arity) IsLow (λ t c. c.low) a terms) known;
-          parameters = heap_bounded arity a (in_heap_each (IsCaseTerm arity) (λ t. univ_bound t ≤ arity) (λ t c. c.parameter) a terms);
+          heap = heap_within limit hs scope ds false h fits small short
+              (in_heap_each (IsCaseTerm arity) IsLow (λ t c. c.low) a terms) known;
+          parameters = heap_bounded arity a (in_heap_each (IsCaseTerm arity) (λ t. univ_bound t ≤ arity)
+              (λ t c. c.parameter) a terms);
           locals = heap_open 16 a (in_heap_each (IsCaseTerm arity) (λ t. exist_bound t ≤ 16) (λ t c. c.few) a terms);
         }
 
-    cases_within : (ps : List Name) (arity : ℕ) (xs : List named.Heap) → Each (heap false).fits xs → Each (IsSmallHeap term_value) (map (numbers.case ps) xs) → Each (λ (c : Heap). length c.spatial ≤ limit) (map (numbers.case ps) xs) → Each (HasCaseTerms arity) (map (numbers.case ps) xs) → Each (λ c. case_fault ds c ≡ None) (map (heap_value term_value hs) (map (numbers.case ps) xs)) → Each (IsCaseWithin limit ds arity) (map (heap_value term_value hs) (map (numbers.case ps) xs))
+    cases_within : (ps : List Name) (arity : ℕ) (xs : List named.Heap) → Each (heap false).fits xs
+        → Each (IsSmallHeap term_value) (map (numbers.case ps) xs)
+        → Each (λ (c : Heap). length c.spatial ≤ limit) (map (numbers.case ps) xs)
+        → Each (HasCaseTerms arity) (map (numbers.case ps) xs)
+        → Each (λ c. case_fault ds c ≡ None) (map (heap_value term_value hs) (map (numbers.case ps) xs))
+        → Each (IsCaseWithin limit ds arity) (map (heap_value term_value hs) (map (numbers.case ps) xs))
     cases_within ps arity [] fits small short terms known = tt
-    cases_within ps arity (x ∷ xs) fits small short terms known =
-        (case_within ps arity x fits.0 small.0 short.0 terms.0 known.0, cases_within ps arity xs fits.1 small.1 short.1 terms.1 known.1)
+    cases_within ps arity (x ∷ xs) fits small short terms known = (
+      case_within ps arity x fits.0 small.0 short.0 terms.0 known.0,
+      cases_within ps arity xs fits.1 small.1 short.1 terms.1 known.1,
+    )
 
-    definition_within : (d : named.Definition) → definition.fits d → IsGood (numbers.definition d) → definition_fault ds (definition_value hs (numbers.definition d)) ≡ None → IsDefinitionWithin limit ds (definition_value hs (numbers.definition d))
+    definition_within : (d : named.Definition) → definition.fits d → IsGood (numbers.definition d)
+        → definition_fault ds (definition_value hs (numbers.definition d)) ≡ None
+        → IsDefinitionWithin limit ds (definition_value hs (numbers.definition d))
     unfolding definition cases
     definition_within d fits g known =
         let ps = numbers.parameter_names d in
@@ -158,12 +183,19 @@ module _ (limit : ℕ) (bounded : limit ≤ 32) (hs : List Heading) where
           arity = g.small.parameters;
           some_case = omega arith;
           few = omega arith;
-          cases = cases_within ps (length d.parameters) d.cases parts.1 g.small.cases g.short g.terms (each_right (case_fault ds) (map (heap_value term_value hs) trees) known);
+          cases = cases_within ps (length d.parameters) d.cases parts.1 g.small.cases g.short g.terms
+              (each_right (case_fault ds) (map (heap_value term_value hs) trees) known);
         }
 
-    definitions_within : (xs : List named.Definition) → Each definition.fits xs → Each IsGood (map numbers.definition xs) → Each (λ d. definition_fault ds d ≡ None) (map (definition_value hs) (map numbers.definition xs)) → Each (IsDefinitionWithin limit ds) (map (definition_value hs) (map numbers.definition xs))
+    definitions_within : (xs : List named.Definition) → Each definition.fits xs
+        → Each IsGood (map numbers.definition xs) → Each (λ d. definition_fault ds d ≡ None)
+        (map (definition_value hs) (map numbers.definition xs))
+        → Each (IsDefinitionWithin limit ds) (map (definition_value hs) (map numbers.definition xs))
     definitions_within [] fits g known = tt
-    definitions_within (x ∷ xs) fits g known = (definition_within x fits.0 g.0 known.0, definitions_within xs fits.1 g.1 known.1)
+    definitions_within (x ∷ xs) fits g known = (
+      definition_within x fits.0 g.0 known.0,
+      definitions_within xs fits.1 g.1 known.1,
+    )
 
   -- ---- names
 
@@ -171,7 +203,9 @@ module _ (limit : ℕ) (bounded : limit ≤ 32) (hs : List Heading) where
   unfolding definition
   definition_free d fits = fits.1.0
 
-  definitions_free : (xs : List named.Definition) → Each definition.fits xs → Each (λ (d : DefinitionValue). is_free_name reserved d.name ≡ true) (map (definition_value hs) (map numbers.definition xs))
+  definitions_free : (xs : List named.Definition) → Each definition.fits xs
+      → Each (λ (d : DefinitionValue). is_free_name reserved d.name ≡ true)
+      (map (definition_value hs) (map numbers.definition xs))
   definitions_free [] fits = tt
   definitions_free (x ∷ xs) fits = (definition_free x fits.0, definitions_free xs fits.1)
 
@@ -190,45 +224,77 @@ line_of count i e =
         (omega arith, omega arith)
 
 module _ (limit : ℕ) (hs : List Heading) (ds : List DefinitionValue) where
-  goal_heap_terms : (k : ℕ) (h : Heap) → heap_flaw (term_flaw InGoal) term_span limit hs k h ≡ None → InHeap IsLow (heap_value term_value hs h)
+  goal_heap_terms : (k : ℕ) (h : Heap) → heap_flaw (term_flaw InGoal) term_span limit hs k h ≡ None
+      → InHeap IsLow (heap_value term_value hs h)
   goal_heap_terms k h e = heap_keeps (term_flaw InGoal) term_span term_value IsLow goal_term limit hs k h e
 
-  disjunct_within : (us : List Name) (h : named.Heap) → (heap true).fits h → IsSmallHeap term_value (numbers.disjunct us h) → length (numbers.disjunct us h).spatial ≤ limit → InHeap IsLow (heap_value term_value hs (numbers.disjunct us h)) → case_fault ds (heap_value term_value hs (numbers.disjunct us h)) ≡ None → IsHeapWithin limit ds (heap_value term_value hs (numbers.disjunct us h))
+  disjunct_within : (us : List Name) (h : named.Heap) → (heap true).fits h
+      → IsSmallHeap term_value (numbers.disjunct us h) → length (numbers.disjunct us h).spatial ≤ limit
+      → InHeap IsLow (heap_value term_value hs (numbers.disjunct us h))
+      → case_fault ds (heap_value term_value hs (numbers.disjunct us h)) ≡ None
+      → IsHeapWithin limit ds (heap_value term_value hs (numbers.disjunct us h))
   unfolding numbers.disjunct
-  disjunct_within us h fits small short low known = heap_within limit hs (numbers.Disjunct us (firsts (primed_names h))) ds true h fits small short low known
+  disjunct_within us h fits small short low known = heap_within limit hs (numbers.Disjunct us (firsts (primed_names h)))
+      ds true h fits small short low known
 
-  disjuncts_within : (us : List Name) (xs : List named.Heap) → Each (heap true).fits xs → Each (IsSmallHeap term_value) (map (numbers.disjunct us) xs) → Each (λ (c : Heap). length c.spatial ≤ limit) (map (numbers.disjunct us) xs) → Each (λ h. InHeap IsLow (heap_value term_value hs h)) (map (numbers.disjunct us) xs) → Each (λ c. case_fault ds c ≡ None) (map (heap_value term_value hs) (map (numbers.disjunct us) xs)) → Each (IsHeapWithin limit ds) (map (heap_value term_value hs) (map (numbers.disjunct us) xs))
+  disjuncts_within : (us : List Name) (xs : List named.Heap) → Each (heap true).fits xs
+      → Each (IsSmallHeap term_value) (map (numbers.disjunct us) xs)
+      → Each (λ (c : Heap). length c.spatial ≤ limit) (map (numbers.disjunct us) xs)
+      → Each (λ h. InHeap IsLow (heap_value term_value hs h)) (map (numbers.disjunct us) xs)
+      → Each (λ c. case_fault ds c ≡ None) (map (heap_value term_value hs) (map (numbers.disjunct us) xs))
+      → Each (IsHeapWithin limit ds) (map (heap_value term_value hs) (map (numbers.disjunct us) xs))
   disjuncts_within us [] fits small short low known = tt
-  disjuncts_within us (x ∷ xs) fits small short low known =
-      (disjunct_within us x fits.0 small.0 short.0 low.0 known.0, disjuncts_within us xs fits.1 small.1 short.1 low.1 known.1)
+  disjuncts_within us (x ∷ xs) fits small short low known = (
+    disjunct_within us x fits.0 small.0 short.0 low.0 known.0,
+    disjuncts_within us xs fits.1 small.1 short.1 low.1 known.1,
+  )
 
-  goal_within : (us : List Name) (count k : ℕ) (g : named.Goal) → goal.fits g → goal_flaw limit hs count k (numbers.goal us g) ≡ None → IsSmallGoal (numbers.goal us g) → goal_fault ds (goal_value hs (numbers.goal us g)) ≡ None → is_universal_heap (antecedent (goal_value hs (numbers.goal us g))) ≡ true → (n : ℕ) → has_line n (goal_value hs (numbers.goal us g)) ≡ true → IsJudgementWithin limit ds n (goal_value hs (numbers.goal us g))
+  goal_within : (us : List Name) (count k : ℕ) (g : named.Goal) → goal.fits g
+      → goal_flaw limit hs count k (numbers.goal us g) ≡ None → IsSmallGoal (numbers.goal us g)
+      → goal_fault ds (goal_value hs (numbers.goal us g)) ≡ None
+      → is_universal_heap (antecedent (goal_value hs (numbers.goal us g))) ≡ true → (n : ℕ)
+      → has_line n (goal_value hs (numbers.goal us g)) ≡ true
+      → IsJudgementWithin limit ds n (goal_value hs (numbers.goal us g))
   unfolding goal entailment state disjuncts
   goal_within us count k (named.Entailment h xs) fits right small known universal n line =
       let left = numbers.heap (numbers.Antecedent us) h in
       let trees = map (numbers.disjunct us) xs in
       let p = k + 1 + heap_span term_span left in
-      let flaws = neither (heap_flaw (term_flaw InGoal) term_span limit hs (k + 1) left) (heaps_flaw (term_flaw InGoal) term_span limit hs Disjuncts p trees) right in
-      let low = each_flawless (counted_flaw (term_flaw InGoal) term_span limit hs Disjuncts) (heap_span term_span) (λ c. InHeap IsLow (heap_value term_value hs c)) (λ m j c g. goal_heap_terms j c (neither (over_if (nat_le 16 m) Disjuncts j) (heap_flaw (term_flaw InGoal) term_span limit hs j c) g).1) 0 p trees flaws.1 in
-      let each_known = each_right (case_fault ds) (heap_value term_value hs left ∷ map (heap_value term_value hs) trees) known in
+      let flaws = neither (heap_flaw (term_flaw InGoal) term_span limit hs (k + 1) left)
+      (heaps_flaw (term_flaw InGoal) term_span limit hs Disjuncts p trees) right in
+      let low = each_flawless (counted_flaw (term_flaw InGoal) term_span limit hs Disjuncts) (heap_span term_span)
+      (λ c. InHeap IsLow (heap_value term_value hs c)) (λ m j c g.
+      goal_heap_terms j c (neither (over_if (nat_le 16 m) Disjuncts j)
+      (heap_flaw (term_flaw InGoal) term_span limit hs j c) g).1) 0 p trees flaws.1 in
+      let each_known = each_right (case_fault ds) (heap_value term_value hs left ∷ map (heap_value term_value hs) trees)
+      known in
       let parts = heaps_parts or_word semicolon (heap true) xs fits.1.1 in
       let some = small.1.some in
       let few = small.1.few in
       let m = length-map trees (heap_value term_value hs) in
       record {
         heaps = (
-          heap_within limit hs (numbers.Antecedent us) ds true h fits.1.0 small.0 (heap_few (term_flaw InGoal) term_span limit hs (k + 1) left flaws.0) (goal_heap_terms (k + 1) left flaws.0) each_known.0,
-          disjuncts_within us xs parts.1 small.1.heaps (heaps_few (term_flaw InGoal) term_span limit hs Disjuncts p trees flaws.1) low each_known.1,
+          heap_within limit hs (numbers.Antecedent us) ds true h fits.1.0 small.0
+              (heap_few (term_flaw InGoal) term_span limit hs (k + 1) left flaws.0)
+              (goal_heap_terms (k + 1) left flaws.0) each_known.0,
+          disjuncts_within us xs parts.1 small.1.heaps
+              (heaps_few (term_flaw InGoal) term_span limit hs Disjuncts p trees flaws.1) low each_known.1,
         );
         universal = universal_heap (heap_value term_value hs left) universal;
         form = (omega arith, omega arith);
       }
   goal_within us count k (named.From i h) fits right small known universal n line =
       let left = numbers.heap (numbers.Antecedent us) h in
-      let flaws = neither (ill_if (nat_eq i 0 || nat_lt count i) NoLine (k + 2)) (heap_flaw (term_flaw InGoal) term_span limit hs (k + 4) left) right in
+      let flaws = neither (ill_if (nat_eq i 0 || nat_lt count i) NoLine (k + 2))
+      (heap_flaw (term_flaw InGoal) term_span limit hs (k + 4) left) right in
       let each_known = each_right (case_fault ds) (heap_value term_value hs left ∷ []) known in
       record {
-        heaps = (heap_within limit hs (numbers.Antecedent us) ds true h fits.1.1 small (heap_few (term_flaw InGoal) term_span limit hs (k + 4) left flaws.1) (goal_heap_terms (k + 4) left flaws.1) each_known.0, tt);
+        heaps = (
+          heap_within limit hs (numbers.Antecedent us) ds true h fits.1.1 small
+              (heap_few (term_flaw InGoal) term_span limit hs (k + 4) left flaws.1) (goal_heap_terms (k + 4) left flaws.1)
+              each_known.0,
+          tt,
+        );
         universal = universal_heap (heap_value term_value hs left) universal;
         form = line_of n i line;
       }
@@ -236,7 +302,10 @@ module _ (limit : ℕ) (hs : List Heading) (ds : List DefinitionValue) where
 -- ---- problems
 
 -- what a tree with names says
-text_within : (names : named.Problem) → problem.fits names → problem_flaw (numbered names) ≡ None → IsProblemWithin names.version (most_spatial names.version) (map (definition_value (headings (numbered names).definitions)) (numbered names).definitions) (program_value (numbered names).lines) (goal_value (headings (numbered names).definitions) (numbered names).goal)
+text_within : (names : named.Problem) → problem.fits names → problem_flaw (numbered names) ≡ None
+    → IsProblemWithin names.version (most_spatial names.version)
+    (map (definition_value (headings (numbered names).definitions)) (numbered names).definitions)
+    (program_value (numbered names).lines) (goal_value (headings (numbered names).definitions) (numbered names).goal)
 unfolding problem body definitions last_part
 text_within names fits right =
     let tree = numbered names in
@@ -246,32 +315,50 @@ text_within names fits right =
     let ds = map (definition_value hs) tree.definitions in
     let at = 4 + definitions_span tree.definitions in
     let goal_at = at + lines_span tree.lines in
-    let a = neither (definitions_flaw limit hs 4 tree.definitions) (or_later (lines_flaw variable_flaw variable_span at tree.lines) (goal_flaw limit hs (length tree.lines) goal_at tree.goal)) right in
-    let b = neither (lines_flaw variable_flaw variable_span at tree.lines) (goal_flaw limit hs (length tree.lines) goal_at tree.goal) a.1 in
+    let a = neither (definitions_flaw limit hs 4 tree.definitions)
+    (or_later (lines_flaw variable_flaw variable_span at tree.lines)
+    (goal_flaw limit hs (length tree.lines) goal_at tree.goal)) right in
+    let b = neither (lines_flaw variable_flaw variable_span at tree.lines)
+    (goal_flaw limit hs (length tree.lines) goal_at tree.goal) a.1 in
     let small = small_of tree text right in
     let each_fits = many_fit definition names.definitions fits.1.1.0 in
-    let each_good = each_flawless (definition_flaw limit hs) definition_span (IsGood limit (most_fits names.version) hs) (good limit (most_fits names.version) hs) 0 4 tree.definitions a.0 in
+    let each_good = each_flawless (definition_flaw limit hs) definition_span (IsGood limit (most_fits names.version) hs)
+    (good limit (most_fits names.version) hs) 0 4 tree.definitions a.0 in
     let few = small.few in
     let m = length-map tree.definitions (definition_value hs) in
     record {
       few = omega arith;
-      definitions = definitions_within limit (most_fits names.version) hs ds names.definitions each_fits each_good (each_right (definition_fault ds) ds (is_closed tree text right));
-      program = faultless_is_program (map (line_value variable_value) tree.lines) small.program (lines_universal variable_value tree.lines);
+      definitions = definitions_within limit (most_fits names.version) hs ds names.definitions each_fits each_good
+          (each_right (definition_fault ds) ds (is_closed tree text right));
+      program = faultless_is_program (map (line_value variable_value) tree.lines) small.program
+          (lines_universal variable_value tree.lines);
       commands = lines_known names.version (numbers.program_variables names.lines) names.lines fits.1.1.1.0;
-      goal = goal_within limit hs ds (numbers.universals names) (length tree.lines) goal_at names.goal fits.1.1.1.1 b.1 small.goal (is_known tree text right) (has_universal_antecedent tree text right) (length (program_value tree.lines)) (has_its_line tree text right);
-      free = λ q d at_q. each_at (λ (v : DefinitionValue). is_free_name reserved v.name ≡ true) ds q d at_q (definitions_free limit (most_fits names.version) hs names.definitions each_fits);
+      goal = goal_within limit hs ds (numbers.universals names) (length tree.lines)
+          goal_at names.goal fits.1.1.1.1 b.1 small.goal (is_known tree text right)
+          (has_universal_antecedent tree text right) (length (program_value tree.lines)) (has_its_line tree text right);
+      free = λ q d at_q. each_at (λ (v : DefinitionValue). is_free_name reserved v.name ≡ true) ds q d at_q
+          (definitions_free limit (most_fits names.version) hs names.definitions each_fits);
       own = own_names limit tree.definitions hs a.0;
     }
 
 -- what a numbered tree of a text says
-pub said_within : (tree : Problem) → IsOfText tree → problem_flaw tree ≡ None → (most : ℕ) (ds : List DefinitionValue) (lines : List Command) (judgement : Judgement) → most ≡ most_spatial tree.version → ds ≡ map (definition_value (headings tree.definitions)) tree.definitions → lines ≡ program_value tree.lines → judgement ≡ goal_value (headings tree.definitions) tree.goal → IsProblemWithin tree.version most ds lines judgement
+pub said_within : (tree : Problem) → IsOfText tree → problem_flaw tree ≡ None
+    → (most : ℕ) (ds : List DefinitionValue) (lines : List Command) (judgement : Judgement)
+    → most ≡ most_spatial tree.version → ds ≡ map (definition_value (headings tree.definitions)) tree.definitions
+    → lines ≡ program_value tree.lines → judgement ≡ goal_value (headings tree.definitions) tree.goal
+    → IsProblemWithin tree.version most ds lines judgement
 said_within tree text right most ds lines judgement limit definitions program goal =
-    let Said = λ (t : Problem). IsProblemWithin t.version (most_spatial t.version) (map (definition_value (headings t.definitions)) t.definitions) (program_value t.lines) (goal_value (headings t.definitions) t.goal) in
+    let Said = λ (t : Problem). IsProblemWithin t.version (most_spatial t.version)
+    (map (definition_value (headings t.definitions)) t.definitions) (program_value t.lines)
+    (goal_value (headings t.definitions) t.goal) in
     let said = subst (λ (t : Problem). problem_flaw t ≡ None → Said t) text.2 (text_within text.0 text.1) right in
     let read = map (definition_value (headings tree.definitions)) tree.definitions in
-    let with_goal = subst (λ (x : Judgement). IsProblemWithin tree.version (most_spatial tree.version) read (program_value tree.lines) x) (sym goal) said in
-    let with_lines = subst (λ (x : List Command). IsProblemWithin tree.version (most_spatial tree.version) read x judgement) (sym program) with_goal in
-    let with_definitions = subst (λ (x : List DefinitionValue). IsProblemWithin tree.version (most_spatial tree.version) x lines judgement) (sym definitions) with_lines in
+    let with_goal = subst (λ (x : Judgement). IsProblemWithin tree.version (most_spatial tree.version) read
+    (program_value tree.lines) x) (sym goal) said in
+    let with_lines = subst (λ (x : List Command). IsProblemWithin tree.version (most_spatial tree.version)
+    read x judgement) (sym program) with_goal in
+    let with_definitions = subst (λ (x : List DefinitionValue). IsProblemWithin tree.version (most_spatial tree.version)
+    x lines judgement) (sym definitions) with_lines in
     subst (λ (x : ℕ). IsProblemWithin tree.version x ds lines judgement) (sym limit) with_definitions
 
 -- what a problem keeps

@@ -2,20 +2,23 @@
 use Rattle.std.specs.Prelude.{ℕ, ◌+◌, ◌||◌, nat_eq, nat_lt, nat_le, is_some, List, length, map, take, None}
 use Rattle.std.specs.List.{list_any}
 use Rattle.std.specs.Str.{bytes_eq}
-use Rattle.cyc_limits.specs.declared.TheConstants.{GREATEST_LOCAL, GREATEST_PROGRAM_VARIABLE, GREATEST_VARIABLE, MOST_ARGUMENTS, MOST_PREDICATES}
+use Rattle.cyc_basics.specs.declared.limits.TheConstants.{GREATEST_LOCAL, GREATEST_PROGRAM_VARIABLE, GREATEST_VARIABLE}
+use Rattle.cyc_basics.specs.declared.limits.TheConstants.{MOST_ARGUMENTS, MOST_PREDICATES}
 use Rattle.cyc_lex.specs.declared.fault.IllFault.TheVariants.{Duplicate, Parameter, NoLine}
-use Rattle.cyc_lex.specs.declared.fault.What.TheVariants.{Predicates, Arguments, Cases, Locals, Disjuncts, ProgramVariables, Variable}
+use Rattle.cyc_lex.specs.declared.fault.What.TheVariants.{Predicates, Arguments, Cases, Locals, Disjuncts}
+use Rattle.cyc_lex.specs.declared.fault.What.TheVariants.{ProgramVariables, Variable}
 use Rattle.heap_syntax.specs.Versions.{most_spatial}
 use Rattle.heap_reader.specs.Trees.{Heading}
 use Rattle.heap_reader.specs.Spans.{heap_span}
 use Rattle.heap_reader.specs.Flaws.{Found, ill_if, over_if, or_later, listed_flaw, arity_in, heap_flaw, heaps_flaw}
-use Rattle.line_reader.specs.LineFlaws.{lines_flaw}
-use Rattle.name_numbers.specs.declared.tree.NumberedTerm.{NumberedTerm}
-use Rattle.name_numbers.specs.declared.tree.NumberedTerm.TheVariants.{Nil, Universal, Existential}
-use Rattle.name_numbers.specs.Numbered.{Heap, Definition, Goal, Entailment, From, Problem}
+use Rattle.heap_reader.specs.LineFlaws.{lines_flaw}
+use Rattle.problem_syntax.specs.declared.numbering.tree.NumberedTerm.{NumberedTerm}
+use Rattle.problem_syntax.specs.declared.numbering.tree.NumberedTerm.TheVariants.{Nil, Universal, Existential}
+use Rattle.problem_syntax.specs.Numbered.{Heap, Definition, Goal, Entailment, From, Problem}
 use Rattle.formula_reader.specs.declared.terms.Scope.{Scope}
 use Rattle.formula_reader.specs.declared.terms.Scope.TheVariants.{Goal as InGoal, Case as InCase}
-use Rattle.formula_reader.specs.Spans.{term_span, variable_span, lines_span, parameter_span, parameters_span, definition_span, definitions_span}
+use Rattle.formula_reader.specs.Spans.{term_span, variable_span, lines_span, parameter_span, parameters_span}
+use Rattle.formula_reader.specs.Spans.{definition_span, definitions_span}
 
 -- what a use of the predicate is compared with
 abbrev pub heading : Definition → Heading
@@ -26,8 +29,8 @@ headings ds = map heading ds
 
 -- ---- terms; each part begins at token k, and n members stand before it
 
--- a case has at most sixteen locals; that a parameter is below the arity, and that a number of the goal has sixteen bits,
--- holds in each text whose other parts are within their limits
+-- a case has at most sixteen locals; that a parameter is below the arity, and that a number of the goal has sixteen
+-- bits, holds in each text whose other parts are within their limits
 abbrev pub term_flaw : Scope → ℕ → NumberedTerm → Found
 term_flaw scope k Nil = None
 term_flaw InGoal k (Universal n primed) = over_if (nat_lt GREATEST_VARIABLE n) Variable k
@@ -43,7 +46,8 @@ variable_flaw k v = over_if (nat_lt GREATEST_PROGRAM_VARIABLE v) ProgramVariable
 
 -- at most eight parameters, no two with one name
 abbrev pub parameter_flaw : List (List ℕ) → ℕ → ℕ → List ℕ → Found
-parameter_flaw ps n k s = or_later (ill_if (list_any (bytes_eq s) (take n ps)) Duplicate k) (over_if (nat_le MOST_ARGUMENTS n) Arguments k)
+parameter_flaw ps n k s = or_later (ill_if (list_any (bytes_eq s) (take n ps)) Duplicate k)
+    (over_if (nat_le MOST_ARGUMENTS n) Arguments k)
 
 abbrev pub parameters_flaw : ℕ → List (List ℕ) → Found
 parameters_flaw k ps = listed_flaw (parameter_flaw ps) parameter_span 0 k ps
@@ -51,7 +55,9 @@ parameters_flaw k ps = listed_flaw (parameter_flaw ps) parameter_span 0 k ps
 -- the name, which no definition before has, and the parameters
 abbrev pub head_flaw : List Heading → ℕ → ℕ → Definition → Found
 head_flaw hs n k d =
-    or_later (over_if (nat_le MOST_PREDICATES n) Predicates k) (or_later (ill_if (is_some (arity_in (take n hs) d.name)) Duplicate (k + 1)) (parameters_flaw (k + 3) d.parameters))
+    or_later (over_if (nat_le MOST_PREDICATES n) Predicates k)
+    (or_later (ill_if (is_some (arity_in (take n hs) d.name)) Duplicate (k + 1))
+    (parameters_flaw (k + 3) d.parameters))
 
 -- of heaps that have at most so many spatial atoms, by the file's version
 abbrev pub cases_flaw : ℕ → List Heading → ℕ → ℕ → List Heap → Found
@@ -60,7 +66,8 @@ cases_flaw most hs arity k cases = heaps_flaw (term_flaw (InCase arity)) term_sp
 -- at most 4,096, no two with one name
 abbrev pub definition_flaw : ℕ → List Heading → ℕ → ℕ → Definition → Found
 definition_flaw most hs n k d =
-    or_later (head_flaw hs n k d) (cases_flaw most hs (length d.parameters) (k + 3 + parameters_span d.parameters + 1) d.cases)
+    or_later (head_flaw hs n k d) (cases_flaw most hs (length d.parameters) (k + 3 + parameters_span d.parameters + 1)
+    d.cases)
 
 abbrev pub definitions_flaw : ℕ → List Heading → ℕ → List Definition → Found
 definitions_flaw most hs k ds = listed_flaw (definition_flaw most hs) definition_span 0 k ds
@@ -70,9 +77,11 @@ definitions_flaw most hs k ds = listed_flaw (definition_flaw most hs) definition
 -- the goal of a program with so many lines
 abbrev pub goal_flaw : ℕ → List Heading → ℕ → ℕ → Goal → Found
 goal_flaw most hs count k (Entailment h ds) =
-    or_later (heap_flaw (term_flaw InGoal) term_span most hs (k + 1) h) (heaps_flaw (term_flaw InGoal) term_span most hs Disjuncts (k + 1 + heap_span term_span h) ds)
+    or_later (heap_flaw (term_flaw InGoal) term_span most hs (k + 1) h)
+    (heaps_flaw (term_flaw InGoal) term_span most hs Disjuncts (k + 1 + heap_span term_span h) ds)
 goal_flaw most hs count k (From n h) =
-    or_later (ill_if (nat_eq n 0 || nat_lt count n) NoLine (k + 2)) (heap_flaw (term_flaw InGoal) term_span most hs (k + 4) h)
+    or_later (ill_if (nat_eq n 0 || nat_lt count n) NoLine (k + 2))
+    (heap_flaw (term_flaw InGoal) term_span most hs (k + 4) h)
 
 -- ---- problems: four tokens stand before the definitions
 
@@ -80,4 +89,6 @@ abbrev pub problem_flaw : Problem → Found
 problem_flaw p =
     let most = most_spatial p.version in
     let lines_at = 4 + definitions_span p.definitions in
-    or_later (definitions_flaw most (headings p.definitions) 4 p.definitions) (or_later (lines_flaw variable_flaw variable_span lines_at p.lines) (goal_flaw most (headings p.definitions) (length p.lines) (lines_at + lines_span p.lines) p.goal))
+    or_later (definitions_flaw most (headings p.definitions) 4 p.definitions)
+    (or_later (lines_flaw variable_flaw variable_span lines_at p.lines)
+    (goal_flaw most (headings p.definitions) (length p.lines) (lines_at + lines_span p.lines) p.goal))

@@ -1,6 +1,9 @@
+pub mod Within
+pub mod Excess
 pub mod Spans
 pub mod Flaws
 pub mod Values
 pub mod Small
 pub mod Problems
 pub mod Reading
+pub mod Nodes

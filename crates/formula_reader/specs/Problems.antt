@@ -8,8 +8,8 @@ use Rattle.pred_defs.specs.declared.faults.DefFault.{DefFault}
 use Rattle.pred_defs.specs.Faults.{first_fault, case_fault}
 use Rattle.problem_syntax.specs.Grammar.{problem}
 use Rattle.problem_syntax.specs.Trees as named
-use Rattle.name_numbers.specs.Numbered as numbers
-use Rattle.name_numbers.specs.Numbering.{numbered}
+use Rattle.problem_syntax.specs.Numbered as numbers
+use Rattle.problem_syntax.specs.Numbering.{numbered}
 
 -- the numbers are those of a tree with names that the grammar has
 abbrev pub IsOfText : numbers.Problem → Type 0

@@ -6,11 +6,11 @@ use Rattle.problem_syntax.specs.Grammar.{problem}
 use Rattle.problem_syntax.specs.Trees as named
 use Rattle.heap_syntax.specs.Versions.{most_spatial}
 use Rattle.heap_reader.specs.Reading as reading
-use Rattle.name_numbers.specs.Numbered as numbers
-use Rattle.name_numbers.specs.Numbering.{numbered}
+use Rattle.problem_syntax.specs.Numbered as numbers
+use Rattle.problem_syntax.specs.Numbering.{numbered}
 use Rattle.formula_reader.specs.declared.problem.Problem.{Problem}
 use Rattle.formula_reader.specs.Flaws.{headings, problem_flaw}
-use Rattle.line_reader.specs.Values.{program_value}
+use Rattle.heap_reader.specs.LineValues.{program_value}
 use Rattle.formula_reader.specs.Values.{definition_value, goal_value}
 
 -- the problem that a numbered tree says
@@ -23,9 +23,14 @@ pub record IsProblemOf (tree : numbers.Problem) (p : Problem) : Type 0 where
 
 -- a tree, which has names, says what it says with numbers by first occurrence in their place
 abbrev pub problems : reading.Format named.Problem Problem
-problems = record { syntax = problem; flaw = λ tree. problem_flaw (numbered tree); Says = λ tree. IsProblemOf (numbered tree) }
+problems = record {
+  syntax = problem;
+  flaw = λ tree. problem_flaw (numbered tree);
+  Says = λ tree. IsProblemOf (numbered tree);
+}
 
--- the bytes spell this problem, or this is the first fault of the text: of its tokens, of its grammar, or of what it says
+-- the bytes spell this problem, or this is the first fault of the text: of its tokens, of its grammar, or of what it
+-- says
 abbrev pub IsRead : List ℕ → Result Problem ReadFault → Type 0
 IsRead = reading.IsRead problems
 

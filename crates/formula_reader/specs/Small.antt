@@ -1,11 +1,11 @@
 -- Parts of numbered problems that fit the values' types: numbers of sixteen bits, lists within the limits.
 use Rattle.std.specs.Prelude.{◌≡◌, ◌<◌, ◌≤◌, List, length, map, None}
-use Rattle.cyc_limits.specs.declared.TheConstants.{MOST_ARGUMENTS, MOST_CASES, MOST_DISJUNCTS, MOST_PREDICATES}
+use Rattle.cyc_basics.specs.declared.limits.TheConstants.{MOST_ARGUMENTS, MOST_CASES, MOST_DISJUNCTS, MOST_PREDICATES}
 use Rattle.heap_formula.specs.Words.{Each}
 use Rattle.goto_lang.specs.Faults.{program_fault}
 use Rattle.heap_reader.specs.Small.{IsSmallHeap}
-use Rattle.line_reader.specs.Values.{line_value, variable_value}
-use Rattle.name_numbers.specs.Numbered.{Heap, Definition, Goal, Entailment, From, Problem}
+use Rattle.heap_reader.specs.LineValues.{line_value, variable_value}
+use Rattle.problem_syntax.specs.Numbered.{Heap, Definition, Goal, Entailment, From, Problem}
 use Rattle.formula_reader.specs.Values.{term_value}
 
 pub record IsSmallDefinition (d : Definition) : Type 0 where

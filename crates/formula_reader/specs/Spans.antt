@@ -1,10 +1,10 @@
 -- How many tokens the parts of a problem file have, the one token after a part counted in.
 use Rattle.std.specs.Prelude.{ℕ, ◌+◌, Bool, true, false, List}
 use Rattle.heap_reader.specs.Spans.{total, total_or, heap_span}
-use Rattle.line_reader.specs.Spans.{line_span}
-use Rattle.name_numbers.specs.declared.tree.NumberedTerm.{NumberedTerm}
-use Rattle.name_numbers.specs.declared.tree.NumberedTerm.TheVariants.{Nil, Universal, Existential}
-use Rattle.name_numbers.specs.Numbered.{Heap, Line, Definition, Goal, Entailment, From, Problem}
+use Rattle.heap_reader.specs.LineSpans.{line_span}
+use Rattle.problem_syntax.specs.declared.numbering.tree.NumberedTerm.{NumberedTerm}
+use Rattle.problem_syntax.specs.declared.numbering.tree.NumberedTerm.TheVariants.{Nil, Universal, Existential}
+use Rattle.problem_syntax.specs.Numbered.{Heap, Line, Definition, Goal, Entailment, From, Problem}
 
 -- a primed name has two tokens
 abbrev pub name_span : Bool → ℕ

@@ -8,9 +8,9 @@ use Rattle.heap_formula.specs.Definitions.{Definition as DefinitionValue}
 use Rattle.heap_reader.specs.Trees.{Heading}
 use Rattle.heap_reader.specs.Values as values
 use Rattle.heap_reader.specs.Values.{heap_value, entailment_value}
-use Rattle.name_numbers.specs.declared.tree.NumberedTerm.{NumberedTerm}
-use Rattle.name_numbers.specs.declared.tree.NumberedTerm.TheVariants.{Nil, Universal, Existential}
-use Rattle.name_numbers.specs.Numbered.{Definition, Goal, Entailment, From}
+use Rattle.problem_syntax.specs.declared.numbering.tree.NumberedTerm.{NumberedTerm}
+use Rattle.problem_syntax.specs.declared.numbering.tree.NumberedTerm.TheVariants.{Nil, Universal, Existential}
+use Rattle.problem_syntax.specs.Numbered.{Definition, Goal, Entailment, From}
 
 abbrev pub term_value : NumberedTerm → Term
 term_value Nil = terms.Nil

@@ -3,16 +3,16 @@
 ghost use Rattle.std.specs.Prelude.{◌≡◌, ◌+◌, ◌<◌, ◌^◌, map};
 ghost use Rattle.cyc_lex.specs.declared.fault.IllFault.TheVariants.{NoLine};
 ghost use Rattle.heap_reader.specs.Flaws.{IsWalk};
-ghost use Rattle.name_numbers.specs.Numbered.{heap_of, goal_of, problem_of, Entailment, From};
+ghost use Rattle.problem_syntax.specs.Numbered.{heap_of, goal_of, problem_of, Entailment, From};
 ghost use Rattle.formula_reader.specs.Spans.{goal_span, problem_span};
 ghost use Rattle.formula_reader.specs.Flaws.{headings, goal_flaw, problem_flaw as first_flaw};
 
 use crate::terms::{Scope, Variables};
 use crate::walk::definitions;
 use cyc_lex::{IllFault, What};
+use heap_reader::lines::walk_lines;
 use heap_reader::{Flaw, Heads, ill, walk_heap, walk_heaps};
-use line_reader::walk_lines;
-use name_numbers::{NumberedGoal, NumberedHeap, NumberedProblem};
+use problem_syntax::numbering::{NumberedGoal, NumberedHeap, NumberedProblem};
 
 fn entailment(
     heads: &Heads<'_>,

@@ -1,13 +1,13 @@
 //! The heads of a problem's definitions.
 
 ghost use Rattle.std.specs.Prelude.{◌≡◌, ◌<◌, ◌^◌, map, IfOk};
-ghost use Rattle.name_numbers.specs.Numbered.{definition_of};
+ghost use Rattle.problem_syntax.specs.Numbered.{definition_of};
 ghost use Rattle.formula_reader.specs.Spans.{definitions_span};
 ghost use Rattle.formula_reader.specs.Flaws.{headings};
 
-use cyc_memory::OutOfMemory;
+use cyc_basics::memory::OutOfMemory;
 use heap_reader::{Head, Heads};
-use name_numbers::NumberedDefinition;
+use problem_syntax::numbering::NumberedDefinition;
 use std::alloc::Global;
 
 /// What uses of the predicates are compared with.

@@ -1,8 +1,10 @@
 //! Problem files: reading a text, with the exact place of each fault.
 #![tactic(auto)]
 
+pub mod files;
 mod goals;
 mod heads;
+pub mod limits;
 mod making;
 mod problem;
 mod reading;

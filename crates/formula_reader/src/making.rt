@@ -1,18 +1,18 @@
 // Problems that are made of values.
 ghost use Rattle.std.specs.Prelude.{◌≡◌, ◌↔◌, Some, IsOk, IfOk, IfErr};
 ghost use Rattle.heap_syntax.specs.Versions.{most_spatial};
-ghost use Rattle.value_limits.specs.Within.{IsProblemWithin};
-ghost use Rattle.value_limits.specs.Excess.{problem_excess as first_excess};
+ghost use Rattle.formula_reader.specs.Within.{IsProblemWithin};
+ghost use Rattle.formula_reader.specs.Excess.{problem_excess as first_excess};
 
+use crate::limits::{ProblemExcess, problem_excess};
 use crate::problem::Problem;
 use goto_lang::Program;
 use heap_formula::Judgement;
 use heap_syntax::Version;
 use pred_defs::Defs;
-use value_limits::{ProblemExcess, problem_excess};
 
-/// The problem of these values, whatever they come from; or the first limit of the version that they pass, in the order in which
-/// a text has them. The definitions take the version's limit of spatial atoms.
+/// The problem of these values, whatever they come from; or the first limit of the version that they pass, in the order
+/// in which a text has them. The definitions take the version's limit of spatial atoms.
 pub fn problem_of_values(
     version: Version,
     defs: Defs,

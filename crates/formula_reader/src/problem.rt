@@ -6,7 +6,7 @@ ghost use Rattle.heap_formula.specs.Judgements.{antecedent};
 ghost use Rattle.pred_defs.specs.Faults.{closed_fault};
 ghost use Rattle.heap_syntax.specs.Versions.{most_spatial};
 ghost use Rattle.heap_reader.specs.Small.{is_short_heap};
-ghost use Rattle.value_limits.specs.Within.{IsProblemWithin};
+ghost use Rattle.formula_reader.specs.Within.{IsProblemWithin};
 ghost use Rattle.formula_reader.specs.Problems.{goal_heaps, goal_fault, has_line};
 ghost use Rattle.rule_table.specs.Tests.{is_universal_heap};
 
@@ -15,10 +15,10 @@ use heap_formula::Judgement;
 use heap_syntax::Version;
 use pred_defs::Defs;
 
-/// What is to be proved: definitions, a program, and a goal over them, in a version of the format. They are within the limits
-/// of the version, whatever they were made of: lists are as long and numbers as great as a text may have them, each predicate
-/// that is used is defined, with this number of arguments, and has a free name of its own, no existential variable stands in
-/// the goal's antecedent, and the goal's line, if it has one, is one of the program's.
+/// What is to be proved: definitions, a program, and a goal over them, in a version of the format. They are within the
+/// limits of the version, whatever they were made of: lists are as long and numbers as great as a text may have them,
+/// each predicate that is used is defined, with this number of arguments, and has a free name of its own, no
+/// existential variable stands in the goal's antecedent, and the goal's line, if it has one, is one of the program's.
 #[derive(Drop)]
 pub struct Problem {
     pub version: Version,

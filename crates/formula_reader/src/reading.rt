@@ -4,8 +4,8 @@ ghost use Rattle.std.specs.Prelude.{◌≡◌, ℕ, List, Result, Ok, ◌-◌, �
 ghost use Rattle.cyc_lex.specs.Word.{EndsOnce, word_of};
 ghost use Rattle.cyc_lex.specs.declared.fault.ReadFault.{ReadFault as ReadFaultValue};
 ghost use Rattle.problem_syntax.specs.Trees.{problem_of as named_problem_of};
-ghost use Rattle.name_numbers.specs.Numbered.{problem_of};
-ghost use Rattle.name_numbers.specs.Numbering.{numbered};
+ghost use Rattle.problem_syntax.specs.Numbered.{problem_of};
+ghost use Rattle.problem_syntax.specs.Numbering.{numbered};
 ghost use Rattle.formula_reader.specs.declared.problem.Problem.{Problem as ProblemValue};
 ghost use Rattle.formula_reader.specs.Spans.{problem_span};
 ghost use Rattle.formula_reader.specs.Flaws.{headings, problem_flaw as first_flaw};
@@ -17,12 +17,12 @@ use crate::heads::heads;
 use crate::problem::Problem;
 use crate::terms::Variables;
 use crate::values::{definitions, goal};
+use cyc_basics::memory::OutOfMemory;
 use cyc_lex::{ReadFault, Tokens, tokens};
-use cyc_memory::OutOfMemory;
+use heap_reader::lines::program;
 use heap_reader::{Heads, flaw_fault};
-use line_reader::program;
-use name_numbers::{NumberedProblem, number_problem};
 use pred_defs::Defs;
+use problem_syntax::numbering::{NumberedProblem, number_problem};
 use problem_syntax::{ProblemTree, read_problem_tree};
 use std::alloc::Global;
 
@@ -87,8 +87,8 @@ fn read_tokens(alloc: Global, tokens: &Tokens<'_>) -> Result<Problem, ReadFault>
     read_tree(alloc, tokens, &tree)
 }
 
-/// The problem that the bytes spell, with numbers by first occurrence in place of names; or the first fault of the text: of
-/// its tokens, then of its grammar, then of what it says, each at the first place where it stands.
+/// The problem that the bytes spell, with numbers by first occurrence in place of names; or the first fault of the
+/// text: of its tokens, then of its grammar, then of what it says, each at the first place where it stands.
 pub fn read_problem(alloc: Global, bytes: &[u8]) -> Result<Problem, ReadFault>
     requires { length bytes.now < 2 ^ 32 - 1 }
     ensures { Reads bytes.now result }

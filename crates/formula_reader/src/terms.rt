@@ -5,12 +5,12 @@ ghost use Rattle.cyc_lex.specs.declared.fault.What.TheVariants.{Variable};
 ghost use Rattle.heap_reader.specs.Flaws.{over_if, IsWalk};
 ghost use Rattle.formula_reader.specs.Spans.{name_span};
 
+use cyc_basics::limits::{GREATEST_LOCAL, GREATEST_PROGRAM_VARIABLE, GREATEST_VARIABLE};
 use cyc_lex::{IllFault, What};
-use cyc_limits::{GREATEST_LOCAL, GREATEST_PROGRAM_VARIABLE, GREATEST_VARIABLE};
 use heap_formula::Term;
+use heap_reader::lines::VariableReader;
 use heap_reader::{Flaw, TermReader, ill, over};
-use line_reader::VariableReader;
-use name_numbers::NumberedTerm;
+use problem_syntax::numbering::NumberedTerm;
 
 /// Where a term stands: in the goal, or in a case of a predicate with so many parameters.
 #[derive(Clone, Copy)]
@@ -86,7 +86,7 @@ pub struct Variables;
 impl VariableReader for Variables {
     ghost use Rattle.formula_reader.specs.Spans as spans;
     ghost use Rattle.formula_reader.specs.Flaws as flaws;
-    ghost use Rattle.line_reader.specs.Values as values;
+    ghost use Rattle.heap_reader.specs.LineValues as values;
 
     type Variable = usize;
 

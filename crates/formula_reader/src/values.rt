@@ -2,16 +2,16 @@
 
 ghost use Rattle.std.specs.Prelude.{◌≡◌, ◌≤◌, length, map, IfOk};
 ghost use Rattle.heap_formula.specs.Words.{Each};
-ghost use Rattle.name_numbers.specs.Numbered.{definition_of, goal_of};
+ghost use Rattle.problem_syntax.specs.Numbered.{definition_of, goal_of};
 ghost use Rattle.formula_reader.specs.Small.{IsSmallDefinition, IsSmallGoal};
 ghost use Rattle.formula_reader.specs.Values.{definition_value as value_of_definition, goal_value};
 
 use crate::terms::Scope;
-use cyc_limits::MOST_PREDICATES;
-use cyc_memory::OutOfMemory;
+use cyc_basics::limits::MOST_PREDICATES;
+use cyc_basics::memory::OutOfMemory;
 use heap_formula::{Def, Judgement};
 use heap_reader::{Heads, definition_value, entailment_value, heap_value};
-use name_numbers::{NumberedDefinition, NumberedGoal};
+use problem_syntax::numbering::{NumberedDefinition, NumberedGoal};
 use std::alloc::Global;
 
 fn definition(

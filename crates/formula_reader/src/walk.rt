@@ -1,5 +1,6 @@
-//! A walk over a problem's definitions in the order of their tokens, up to the first flaw. Each function is given the number
-//! of the part's first token and gives that of the token after it and the one that follows every part of its kind.
+//! A walk over a problem's definitions in the order of their tokens, up to the first flaw. Each function is given the
+//! number of the part's first token and gives that of the token after it and the one that follows every part of its
+//! kind.
 
 ghost use Rattle.std.specs.Prelude.{◌≡◌, ◌+◌, ◌<◌, ◌≤◌, ◌^◌, length, map, take};
 ghost use Rattle.std.specs.List.{list_any};
@@ -7,15 +8,16 @@ ghost use Rattle.std.specs.Str.{bytes_eq};
 ghost use Rattle.heap_reader.specs.Spans.{total};
 ghost use Rattle.heap_reader.specs.Flaws.{IsWalk};
 ghost use Rattle.problem_syntax.specs.Trees.{text_of};
-ghost use Rattle.name_numbers.specs.Numbered.{definition_of};
+ghost use Rattle.problem_syntax.specs.Numbered.{definition_of};
 ghost use Rattle.formula_reader.specs.Spans.{parameter_span, parameters_span, definition_span, definitions_span};
-ghost use Rattle.formula_reader.specs.Flaws.{parameter_flaw, parameters_flaw, head_flaw, definition_flaw, definitions_flaw};
+ghost use Rattle.formula_reader.specs.Flaws.{parameter_flaw, parameters_flaw, head_flaw, definition_flaw};
+ghost use Rattle.formula_reader.specs.Flaws.{definitions_flaw};
 
 use crate::terms::Scope;
+use cyc_basics::limits::{MOST_ARGUMENTS, MOST_PREDICATES};
 use cyc_lex::{IllFault, What};
-use cyc_limits::{MOST_ARGUMENTS, MOST_PREDICATES};
 use heap_reader::{Flaw, Heads, ill, over, walk_heaps};
-use name_numbers::NumberedDefinition;
+use problem_syntax::numbering::NumberedDefinition;
 
 /// Whether one of the texts is this one.
 fn is_among(texts: &[&str], text: &str) -> bool
@@ -115,8 +117,8 @@ fn definition(
     Ok(behind + 1)
 }
 
-/// Goes over definitions, the first of which begins at a token, and gives the token after them. A heap has at most `most`
-/// spatial atoms.
+/// Goes over definitions, the first of which begins at a token, and gives the token after them. A heap has at most
+/// `most` spatial atoms.
 pub fn definitions(
     heads: &Heads<'_>,
     most: u8,

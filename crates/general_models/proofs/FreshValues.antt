@@ -1,7 +1,8 @@
 -- Among fresh values that are as many as the values in use, some value is not in use if one of these is not fresh.
-use Rattle.std.proofs.Common.{◌≡◌, ◌≢◌, ℕ, zero, suc, ◌+◌, ◌<◌, ◌≤◌, List, [], ◌∷◌, length, ◌⊎◌, inl, inr, sym, ◌∙◌, subst, arith}
+use Rattle.std.proofs.Common.{◌≡◌, ◌≢◌, ℕ, zero, suc, ◌+◌, ◌<◌, ◌≤◌, List, [], ◌∷◌, length, ◌⊎◌, inl, inr, sym, ◌∙◌}
+use Rattle.std.proofs.Common.{subst, arith}
 use Rattle.std.proofs.lemmas.Bool.{cases_order, cases_lt}
-use Rattle.list_facts.specs.Words.{IsMember}
+use Rattle.cyc_basics.specs.Words.{IsMember}
 
 pub apart : (a b : ℕ) → ((a < b) ⊎ (b < a)) → a ≢ b
 apart a b (inl l) = λ e. omega arith
@@ -22,7 +23,8 @@ member_or_not x (y ∷ ys) = elim (cases_order y x) [
     neither o n (inr m) = n m
 
 -- the members but for one
-pub all_but : (x : ℕ) (xs : List ℕ) → IsMember x xs → (rest : List ℕ) × (length xs ≡ length rest + 1) × ((y : ℕ) → y ≢ x → IsMember y xs → IsMember y rest)
+pub all_but : (x : ℕ) (xs : List ℕ) → IsMember x xs
+    → (rest : List ℕ) × (length xs ≡ length rest + 1) × ((y : ℕ) → y ≢ x → IsMember y xs → IsMember y rest)
 all_but x [] m = absurd m
 all_but x (z ∷ zs) (inl e) = (zs, omega arith, others)
   where
@@ -34,7 +36,8 @@ all_but x (z ∷ zs) (inr m) =
     let l : length zs ≡ length r.0 + 1 = r.1 in
     (z ∷ r.0, omega arith, others r.0 r.2)
   where
-    others : (rest : List ℕ) → ((y : ℕ) → y ≢ x → IsMember y zs → IsMember y rest) → (y : ℕ) → y ≢ x → ((z ≡ y) ⊎ IsMember y zs) → ((z ≡ y) ⊎ IsMember y rest)
+    others : (rest : List ℕ) → ((y : ℕ) → y ≢ x → IsMember y zs → IsMember y rest) → (y : ℕ) → y ≢ x
+        → ((z ≡ y) ⊎ IsMember y zs) → ((z ≡ y) ⊎ IsMember y rest)
     others rest k y n (inl f) = inl f
     others rest k y n (inr m) = inr (k y n m)
 
@@ -47,7 +50,8 @@ counted base (suc k) xs all =
     let m : k ≤ length r.0 = counted base k r.0 (λ i lt. r.2 (base + i) (λ e. omega arith) (all i (omega arith))) in
     omega arith
 
-sought : (base k : ℕ) (xs : List ℕ) → ((i : ℕ) × (i < k) × (IsMember (base + i) xs → ⊥)) ⊎ ((i : ℕ) → i < k → IsMember (base + i) xs)
+sought : (base k : ℕ) (xs : List ℕ) → ((i : ℕ) × (i < k) × (IsMember (base + i) xs → ⊥))
+    ⊎ ((i : ℕ) → i < k → IsMember (base + i) xs)
 sought base zero xs = inr (λ i l. absurd (omega arith))
 sought base (suc k) xs = elim (sought base k xs) [
   | inl r ↦ (let l = r.1 in inl (r.0, omega arith, r.2))
@@ -57,13 +61,15 @@ sought base (suc k) xs = elim (sought base k xs) [
   ]
 ]
   where
-    upto : ((i : ℕ) → i < k → IsMember (base + i) xs) → IsMember (base + k) xs → (i : ℕ) → i < suc k → IsMember (base + i) xs
+    upto : ((i : ℕ) → i < k → IsMember (base + i) xs) → IsMember (base + k) xs → (i : ℕ) → i < suc k
+        → IsMember (base + i) xs
     upto all m i l = elim (cases_lt i k) [
       | inl below ↦ all i below
       | inr above ↦ (let e : k ≡ i = omega arith in subst (λ j. IsMember (base + j) xs) e m)
     ]
 
-pub unused : (base k : ℕ) (xs : List ℕ) (x : ℕ) → IsMember x xs → ((i : ℕ) → i < k → base + i ≢ x) → length xs ≤ k → (i : ℕ) × (i < k) × (IsMember (base + i) xs → ⊥)
+pub unused : (base k : ℕ) (xs : List ℕ) (x : ℕ) → IsMember x xs → ((i : ℕ) → i < k → base + i ≢ x) → length xs ≤ k
+    → (i : ℕ) × (i < k) × (IsMember (base + i) xs → ⊥)
 unused base k xs x m other few = elim (sought base k xs) [
   | inl r ↦ r
   | inr all ↦ absurd (too_many all)

@@ -6,3 +6,10 @@ pub mod RangedCases
 pub mod RangedQuestions
 pub mod RangeSteps
 pub mod SomeOf
+pub mod Leaving
+pub mod Deriving
+pub mod Sound
+pub mod Halting
+pub mod RunEnds
+pub mod SameStates
+pub mod Moves

@@ -1,5 +1,6 @@
 -- The locals of a case need no other values than those of a range.
-use Rattle.std.proofs.Common.{◌≡◌, ◌≢◌, ℕ, zero, suc, ◌+◌, ◌<◌, ◌≤◌, List, [], ◌∷◌, ◌++◌, length, length-append, map, false, ◌⊎◌, inl, inr, refl, sym, ap, ◌∙◌, subst, arith}
+use Rattle.std.proofs.Common.{◌≡◌, ◌≢◌, ℕ, zero, suc, ◌+◌, ◌<◌, ◌≤◌, List, [], ◌∷◌, ◌++◌, length, length-append, map}
+use Rattle.std.proofs.Common.{false, ◌⊎◌, inl, inr, refl, sym, ap, ◌∙◌, subst, arith}
 use Rattle.std.specs.Prelude.{slice_index, nat_eq, if◌then◌else◌}
 use Rattle.std.proofs.lemmas.Bool.{cases_Bool, cases_lt, cases_order, eqb-true, eq-eqb}
 use Rattle.std.proofs.lemmas.List.{length-map}
@@ -10,16 +11,17 @@ use Rattle.heap_formula.specs.declared.atoms.Pure.TheVariants.{Eq, Neq}
 use Rattle.heap_formula.specs.declared.atoms.Spatial.{Spatial}
 use Rattle.heap_formula.specs.declared.atoms.Spatial.TheVariants.{Cell, Pred}
 use Rattle.heap_formula.specs.Symbolic.{SymbolicHeap}
-use Rattle.heap_formula.specs.Fresh.{univ_bound, exist_bound, most_in_pure, most_in_spatial, most_in_heap, heap_bound, heap_exists}
+use Rattle.heap_formula.specs.Fresh.{univ_bound, exist_bound, most_in_pure, most_in_spatial, most_in_heap, heap_bound}
+use Rattle.heap_formula.specs.Fresh.{heap_exists}
 use Rattle.heap_formula.specs.Words.{Each}
 use Rattle.heap_formula.specs.Values.{Stack, value}
 use Rattle.heap_formula.specs.Cells.{Cells}
 use Rattle.heap_formula.specs.Meaning.{Family, Holds}
 use Rattle.heap_formula.specs.Closedness.{InPure, InSpatial, InHeap}
-use Rattle.formula_facts.proofs.AllMembers.{each_imply}
-use Rattle.formula_facts.proofs.Greatest.{each_below}
-use Rattle.list_facts.specs.Words.{IsMember, tabulated}
-use Rattle.list_facts.proofs.Places.{tabulated-at}
+use Rattle.heap_formula.proofs.AllMembers.{each_imply}
+use Rattle.heap_formula.proofs.Greatest.{each_below}
+use Rattle.cyc_basics.specs.Words.{IsMember, tabulated}
+use Rattle.cyc_basics.proofs.Places.{tabulated-at}
 use Rattle.model_check.specs.Constructive.{Inside}
 use Rattle.general_models.specs.Ranges.{Leaves, IsWithin, Occur, IsRange}
 use Rattle.model_check.proofs.OnlyLocals.{member_each}
@@ -39,8 +41,10 @@ spatial_most f m (Pred p ts) h = each_below f m ts h
 
 pub heap_most : (f : Term → ℕ) (m : ℕ) (b : SymbolicHeap) → most_in_heap f b ≤ m → InHeap (λ t. f t ≤ m) b
 heap_most f m b h = (
-  each_imply (λ x. most_in_pure f x ≤ m) (InPure (λ t. f t ≤ m)) (pure_most f m) b.pure (each_below (most_in_pure f) m b.pure (omega arith)),
-  each_imply (λ x. most_in_spatial f x ≤ m) (InSpatial (λ t. f t ≤ m)) (spatial_most f m) b.spatial (each_below (most_in_spatial f) m b.spatial (omega arith)),
+  each_imply (λ x. most_in_pure f x ≤ m) (InPure (λ t. f t ≤ m)) (pure_most f m) b.pure
+      (each_below (most_in_pure f) m b.pure (omega arith)),
+  each_imply (λ x. most_in_spatial f x ≤ m) (InSpatial (λ t. f t ≤ m)) (spatial_most f m) b.spatial
+      (each_below (most_in_spatial f) m b.spatial (omega arith)),
 )
 
 -- ---- two values change places
@@ -107,7 +111,8 @@ each_within range [] z e n = z
 each_within range (v ∷ s) z e zero = e.0
 each_within range (v ∷ s) z e (suc n) = each_within range s z e.1 n
 
-module _ (h : Cells) (range numbers : List ℕ) (base fresh : ℕ) (o : Occur h numbers) (r : IsRange range numbers base fresh) where
+module _ (h : Cells) (range numbers : List ℕ) (base fresh : ℕ) (o : Occur h numbers)
+    (r : IsRange range numbers base fresh) where
   -- an argument: a value of the range that is below the base or one of those in use
   abbrev pub IsGiven : List ℕ → ℕ → Type 0
   IsGiven used v = IsMember v range × ((v < base) ⊎ IsMember v used)
@@ -136,94 +141,117 @@ module _ (h : Cells) (range numbers : List ℕ) (base fresh : ℕ) (o : Occur h 
           | inr m ↦ n (subst (λ u. IsMember u used) e m)
         ])
 
-  module _ (P : Family) (keeps : (move : ℕ → ℕ) (twice : (x : ℕ) → move (move x) ≡ x) (leaves : Leaves move h) → IsKept move twice h leaves P) (s : Stack) (b : SymbolicHeap) (g : Cells) (inside : Inside g h) (used : List ℕ) (given : (j : ℕ) → j < heap_bound b → IsGiven used (slice_index s j)) (few : length used + heap_exists b ≤ fresh) where
-    abbrev AreNarrow : ℕ → Type 0
-    AreNarrow k = (e : Stack) × (length e ≡ heap_exists b) × ((j : ℕ) → j < k → IsMember (slice_index e j) range) × Holds (λ _. P) s e b g
+  module _ (P : Family) (keeps : (move : ℕ → ℕ) (twice : (x : ℕ) → move (move x) ≡ x) (leaves : Leaves move h)
+      → IsKept move twice h leaves P) (s : Stack) (b : SymbolicHeap) (g : Cells) (inside : Inside g h) (used : List ℕ)
+      (given : (j : ℕ) → j < heap_bound b → IsGiven used (slice_index s j)) (few : length used + heap_exists b ≤ fresh)
+    where
+      abbrev AreNarrow : ℕ → Type 0
+      AreNarrow k = (e : Stack) × (length e ≡ heap_exists b) × ((j : ℕ) → j < k → IsMember (slice_index e j) range)
+          × Holds (λ _. P) s e b g
 
-    module _ (k : ℕ) (lt : k < heap_exists b) (e : Stack) (long : length e ≡ heap_exists b) (within : (j : ℕ) → j < k → IsMember (slice_index e j) range) (holds : Holds (λ _. P) s e b g) (out : IsMember (slice_index e k) range → ⊥) where
-      abbrev moved_by : ℕ → ℕ → ℕ
-      moved_by i = swap (slice_index e k) (base + i)
+      module _ (k : ℕ) (lt : k < heap_exists b) (e : Stack) (long : length e ≡ heap_exists b)
+          (within : (j : ℕ) → j < k → IsMember (slice_index e j) range) (holds : Holds (λ _. P) s e b g)
+          (out : IsMember (slice_index e k) range → ⊥) where
+        abbrev moved_by : ℕ → ℕ → ℕ
+        moved_by i = swap (slice_index e k) (base + i)
 
-      module _ (i : ℕ) (l : i < fresh) (free : IsMember (base + i) used → ⊥) (new : IsMember (base + i) e → ⊥) where
-        leaves : Leaves (moved_by i) h
-        leaves = swap_leaves (slice_index e k) i out
+        module _ (i : ℕ) (l : i < fresh) (free : IsMember (base + i) used → ⊥) (new : IsMember (base + i) e → ⊥) where
+          leaves : Leaves (moved_by i) h
+          leaves = swap_leaves (slice_index e k) i out
 
-        entry : (j : ℕ) → j < suc k → IsMember (moved_by i (slice_index e j)) range
-        entry j lj = elim (cases_lt j k) [
-          | inl below ↦
-              let v = slice_index e j in
-              let m = within j below in
-              let here : IsMember v e = index_member e j (omega arith) in
-              let stays : moved_by i v ≡ v = swap_other (slice_index e k) (base + i) v (λ q. out (subst (λ u. IsMember u range) q m)) (λ q. new (subst (λ u. IsMember u e) q here)) in
-              subst (λ u. IsMember u range) (sym stays) m
-          | inr above ↦
-              let q : k ≡ j = omega arith in
-              let first : moved_by i (slice_index e j) ≡ base + i = ap (λ n. moved_by i (slice_index e n)) (sym q) ∙ swap_first (slice_index e k) (base + i) in
-              subst (λ u. IsMember u range) (sym first) (r.others i l)
-        ]
+          entry : (j : ℕ) → j < suc k → IsMember (moved_by i (slice_index e j)) range
+          entry j lj = elim (cases_lt j k) [
+            | inl below ↦
+                let v = slice_index e j in
+                let m = within j below in
+                let here : IsMember v e = index_member e j (omega arith) in
+                let stays : moved_by i v ≡ v = swap_other (slice_index e k) (base + i) v
+                (λ q. out (subst (λ u. IsMember u range) q m)) (λ q. new (subst (λ u. IsMember u e) q here)) in
+                subst (λ u. IsMember u range) (sym stays) m
+            | inr above ↦
+                let q : k ≡ j = omega arith in
+                let first : moved_by i (slice_index e j) ≡ base + i = ap (λ n. moved_by i (slice_index e n)) (sym q)
+                ∙ swap_first (slice_index e k) (base + i) in
+                subst (λ u. IsMember u range) (sym first) (r.others i l)
+          ]
 
-        entries : (j : ℕ) → j < suc k → IsMember (slice_index (map (moved_by i) e) j) range
-        entries j lj = subst (λ u. IsMember u range) (sym (index_moved (moved_by i) (swap_twice (slice_index e k) (base + i)) h leaves e j)) (entry j lj)
+          entries : (j : ℕ) → j < suc k → IsMember (slice_index (map (moved_by i) e) j) range
+          entries j lj = subst (λ u. IsMember u range)
+              (sym (index_moved (moved_by i) (swap_twice (slice_index e k) (base + i)) h leaves e j)) (entry j lj)
 
-        term_moved : (t : Term) → univ_bound t ≤ heap_bound b → IsMoved (moved_by i) (swap_twice (slice_index e k) (base + i)) h leaves s e s (map (moved_by i) e) t
-        term_moved Nil l' = sym leaves.nil
-        term_moved (Univ j) l' = sym (given_stays (slice_index e k) i out used free (slice_index s j) (given j (omega arith)))
-        term_moved (Exist n) l' = index_moved (moved_by i) (swap_twice (slice_index e k) (base + i)) h leaves e n
+          term_moved : (t : Term) → univ_bound t ≤ heap_bound b
+              → IsMoved (moved_by i) (swap_twice (slice_index e k) (base + i)) h leaves s e s (map (moved_by i) e) t
+          term_moved Nil l' = sym leaves.nil
+          term_moved (Univ j) l' = sym (given_stays (slice_index e k) i out used free (slice_index s j)
+              (given j (omega arith)))
+          term_moved (Exist n) l' = index_moved (moved_by i) (swap_twice (slice_index e k) (base + i)) h leaves e n
 
-        by_swap : AreNarrow (suc k)
-        by_swap = (
-          map (moved_by i) e,
-          length-map e (moved_by i) ∙ long,
-          entries,
-          holds_moved (moved_by i) (swap_twice (slice_index e k) (base + i)) h leaves s e s (map (moved_by i) e) P (keeps (moved_by i) (swap_twice (slice_index e k) (base + i)) leaves) b g inside (in_heap_map (λ t. univ_bound t ≤ heap_bound b) (IsMoved (moved_by i) (swap_twice (slice_index e k) (base + i)) h leaves s e s (map (moved_by i) e)) term_moved b (heap_most univ_bound (heap_bound b) b (omega arith))) holds,
-        )
+          by_swap : AreNarrow (suc k)
+          by_swap = (
+            map (moved_by i) e,
+            length-map e (moved_by i) ∙ long,
+            entries,
+            holds_moved (moved_by i) (swap_twice (slice_index e k) (base + i)) h leaves s e s (map (moved_by i) e) P
+                (keeps (moved_by i) (swap_twice (slice_index e k) (base + i)) leaves) b g inside
+                (in_heap_map (λ t. univ_bound t ≤ heap_bound b)
+                (IsMoved (moved_by i) (swap_twice (slice_index e k) (base + i)) h leaves s e s (map (moved_by i) e))
+                term_moved b (heap_most univ_bound (heap_bound b) b (omega arith))) holds,
+          )
 
-      -- one more local has a value of the range
-      swapped : AreNarrow (suc k)
-      swapped =
-          let there : IsMember (slice_index e k) (used ++ e) = member_right (slice_index e k) used e (index_member e k (omega arith)) in
-          let n = length-append used e in
-          let u = unused base fresh (used ++ e) (slice_index e k) there (λ i l q. out (subst (λ v. IsMember v range) q (r.others i l))) (omega arith) in
-          by_swap u.0 u.1 (λ m. u.2 (member_left (base + u.0) used e m)) (λ m. u.2 (member_right (base + u.0) used e m))
+        -- one more local has a value of the range
+        swapped : AreNarrow (suc k)
+        swapped =
+            let there : IsMember (slice_index e k) (used ++ e) = member_right (slice_index e k) used e
+            (index_member e k (omega arith)) in
+            let n = length-append used e in
+            let u = unused base fresh (used ++ e) (slice_index e k) there
+            (λ i l q. out (subst (λ v. IsMember v range) q (r.others i l))) (omega arith) in
+            by_swap u.0 u.1 (λ m. u.2 (member_left (base + u.0) used e m)) (λ m. u.2 (member_right (base + u.0) used e m))
 
-    narrow : (k : ℕ) → k ≤ heap_exists b → (e : Stack) → length e ≡ heap_exists b → Holds (λ _. P) s e b g → AreNarrow k
-    narrow zero l e long holds = (e, long, (λ j lj. absurd (omega arith)), holds)
-    narrow (suc k) l e long holds =
-        let q = narrow k (omega arith) e long holds in
-        elim (member_or_not (slice_index q.0 k) range) [
-          | inl m ↦ (q.0, q.1, more q.0 m q.2, q.3)
-          | inr out ↦ swapped k (omega arith) q.0 q.1 q.2 q.3 out
-        ]
-      where
-        more : (e : Stack) → IsMember (slice_index e k) range → ((j : ℕ) → j < k → IsMember (slice_index e j) range) → (j : ℕ) → j < suc k → IsMember (slice_index e j) range
-        more e m all j lj = elim (cases_lt j k) [
-          | inl below ↦ all j below
-          | inr above ↦ (let q : k ≡ j = omega arith in subst (λ n. IsMember (slice_index e n) range) q m)
-        ]
+      narrow : (k : ℕ) → k ≤ heap_exists b → (e : Stack) → length e ≡ heap_exists b → Holds (λ _. P) s e b g → AreNarrow k
+      narrow zero l e long holds = (e, long, (λ j lj. absurd (omega arith)), holds)
+      narrow (suc k) l e long holds =
+          let q = narrow k (omega arith) e long holds in
+          elim (member_or_not (slice_index q.0 k) range) [
+            | inl m ↦ (q.0, q.1, more q.0 m q.2, q.3)
+            | inr out ↦ swapped k (omega arith) q.0 q.1 q.2 q.3 out
+          ]
+        where
+          more : (e : Stack) → IsMember (slice_index e k) range → ((j : ℕ) → j < k → IsMember (slice_index e j) range)
+              → (j : ℕ) → j < suc k → IsMember (slice_index e j) range
+          more e m all j lj = elim (cases_lt j k) [
+            | inl below ↦ all j below
+            | inr above ↦ (let q : k ≡ j = omega arith in subst (λ n. IsMember (slice_index e n) range) q m)
+          ]
 
-    -- the first entries of the locals
-    same_values : (vs : List ℕ) → map (λ v. v) vs ≡ vs
-    same_values [] = refl
-    same_values (v ∷ vs) = λ i. v ∷ same_values vs i
+      -- the first entries of the locals
+      same_values : (vs : List ℕ) → map (λ v. v) vs ≡ vs
+      same_values [] = refl
+      same_values (v ∷ vs) = λ i. v ∷ same_values vs i
 
-    leaves_all : Leaves (λ v. v) h
-    leaves_all = record { nil = refl; cells = λ a vs e. (refl, same_values vs) }
+      leaves_all : Leaves (λ v. v) h
+      leaves_all = record { nil = refl; cells = λ a vs e. (refl, same_values vs) }
 
-    cut : (e : Stack) (t : Term) → exist_bound t ≤ heap_exists b → value s (tabulated (slice_index e) (heap_exists b)) t ≡ value s e t
-    cut e Nil l = refl
-    cut e (Univ n) l = refl
-    cut e (Exist n) l = tabulated-at (slice_index e) (heap_exists b) n (omega arith)
+      cut : (e : Stack) (t : Term) → exist_bound t ≤ heap_exists b
+          → value s (tabulated (slice_index e) (heap_exists b)) t ≡ value s e t
+      cut e Nil l = refl
+      cut e (Univ n) l = refl
+      cut e (Exist n) l = tabulated-at (slice_index e) (heap_exists b) n (omega arith)
 
-    -- where a formula holds for some values of its locals, it holds for values of the range
-    pub narrowed : (e : Stack) → Holds (λ _. P) s e b g → (e' : Stack) × IsWithin range e' × Holds (λ _. P) s e' b g
-    narrowed e holds =
-        let e0 = tabulated (slice_index e) (heap_exists b) in
-        let first = holds_moved (λ v. v) (λ v. refl) h leaves_all s e s e0 P (keeps (λ v. v) (λ v. refl) leaves_all) b g inside (in_heap_map (λ t. exist_bound t ≤ heap_exists b) (IsMoved (λ v. v) (λ v. refl) h leaves_all s e s e0) (cut e) b (heap_most exist_bound (heap_exists b) b (omega arith))) holds in
-        let q = narrow (heap_exists b) (omega arith) e0 (length_tabulated (slice_index e) (heap_exists b)) first in
-        (q.0, all q.0 q.1 q.2, q.3)
-      where
-        all : (e' : Stack) → length e' ≡ heap_exists b → ((j : ℕ) → j < heap_exists b → IsMember (slice_index e' j) range) → IsWithin range e'
-        all e' long within n = elim (cases_lt n (heap_exists b)) [
-          | inl l ↦ within n l
-          | inr l ↦ subst (λ v. IsMember v range) (sym (past_end e' n (omega arith))) (r.kept 0 o.nil)
-        ]
+      -- where a formula holds for some values of its locals, it holds for values of the range
+      pub narrowed : (e : Stack) → Holds (λ _. P) s e b g → (e' : Stack) × IsWithin range e' × Holds (λ _. P) s e' b g
+      narrowed e holds =
+          let e0 = tabulated (slice_index e) (heap_exists b) in
+          let first = holds_moved (λ v. v) (λ v. refl) h leaves_all s e s e0 P (keeps (λ v. v) (λ v. refl) leaves_all)
+          b g inside (in_heap_map (λ t. exist_bound t ≤ heap_exists b)
+          (IsMoved (λ v. v) (λ v. refl) h leaves_all s e s e0) (cut e) b
+          (heap_most exist_bound (heap_exists b) b (omega arith))) holds in
+          let q = narrow (heap_exists b) (omega arith) e0 (length_tabulated (slice_index e) (heap_exists b)) first in
+          (q.0, all q.0 q.1 q.2, q.3)
+        where
+          all : (e' : Stack) → length e' ≡ heap_exists b
+              → ((j : ℕ) → j < heap_exists b → IsMember (slice_index e' j) range) → IsWithin range e'
+          all e' long within n = elim (cases_lt n (heap_exists b)) [
+            | inl l ↦ within n l
+            | inr l ↦ subst (λ v. IsMember v range) (sym (past_end e' n (omega arith))) (r.kept 0 o.nil)
+          ]

@@ -12,11 +12,12 @@ use Rattle.heap_formula.specs.Definitions.{Definition}
 use Rattle.heap_formula.specs.Words.{Each}
 use Rattle.heap_formula.specs.Values.{Stack, value, values}
 use Rattle.heap_formula.specs.Cells.{Cells, cell_at}
-use Rattle.heap_formula.specs.Meaning.{Family, PureHolds, IsCell, AtomHolds, SpatialHolds, Holds, CaseHolds, cases_of, at_stage}
+use Rattle.heap_formula.specs.Meaning.{Family, PureHolds, IsCell, AtomHolds, SpatialHolds, Holds, CaseHolds, cases_of}
+use Rattle.heap_formula.specs.Meaning.{at_stage}
 use Rattle.heap_formula.specs.Closedness.{InPure, InSpatial, InHeap}
 use Rattle.heap_formula.proofs.StageLaws.{OneOf-map}
 use Rattle.heap_formula.proofs.Insertions.{one_cell_has}
-use Rattle.formula_facts.proofs.AllMembers.{each_any}
+use Rattle.heap_formula.proofs.AllMembers.{each_any}
 use Rattle.model_check.specs.Constructive.{Inside}
 use Rattle.general_models.specs.Ranges.{Leaves}
 use Rattle.model_check.proofs.OnlyLocals.{left_inside, right_inside, inside_trans}
@@ -31,7 +32,10 @@ in_spatial_any Q q (Cell t ts) = (q t, each_any Q q ts)
 in_spatial_any Q q (Pred p ts) = each_any Q q ts
 
 pub in_heap_any : (Q : Term → Type 0) → ((t : Term) → Q t) → (a : SymbolicHeap) → InHeap Q a
-in_heap_any Q q a = (each_any (InPure Q) (in_pure_any Q q) a.pure, each_any (InSpatial Q) (in_spatial_any Q q) a.spatial)
+in_heap_any Q q a = (
+  each_any (InPure Q) (in_pure_any Q q) a.pure,
+  each_any (InSpatial Q) (in_spatial_any Q q) a.spatial,
+)
 
 module _ (move : ℕ → ℕ) (twice : (x : ℕ) → move (move x) ≡ x) (h : Cells) (leaves : Leaves move h) where
   -- a family that the permutation does not change, in the parts of the heap
@@ -59,18 +63,21 @@ module _ (move : ℕ → ℕ) (twice : (x : ℕ) → move (move x) ≡ x) (h : C
     pures_moved (x ∷ xs) m p = (pure_moved x m.0 p.0, pures_moved xs m.1 p.1)
 
     module _ (P : Family) (kept : IsKept P) where
-      atom_moved : (x : Spatial) (g : Cells) → Inside g h → InSpatial IsMoved x → AtomHolds P s e x g → AtomHolds P s' e' x g
+      atom_moved : (x : Spatial) (g : Cells) → Inside g h → InSpatial IsMoved x → AtomHolds P s e x g
+          → AtomHolds P s' e' x g
       atom_moved (Cell t ts) g w m c =
           let a = value s e t in
           let vs = values s e ts in
-          let there : cell_at h a ≡ Some vs = w.same a vs (subst (λ f. cell_at f a ≡ Some vs) (sym c.2) (one_cell_has a vs)) in
+          let there : cell_at h a ≡ Some vs = w.same a vs (subst (λ f. cell_at f a ≡ Some vs) (sym c.2)
+          (one_cell_has a vs)) in
           let k = leaves.cells a vs there in
           let address : a ≡ value s' e' t = sym (m.0 ∙ k.0) in
           let fields : vs ≡ values s' e' ts = sym (values_moved ts m.1 ∙ k.1) in
           subst (λ v. IsCell v (values s' e' ts) g) address (subst (λ us. IsCell a us g) fields c)
       atom_moved (Pred p ts) g w m a = subst (λ us. P p us g) (sym (values_moved ts m)) (kept p (values s e ts) g w a)
 
-      spatial_moved : (xs : List Spatial) (g : Cells) → Inside g h → Each (InSpatial IsMoved) xs → SpatialHolds (λ _. P) s e xs g → SpatialHolds (λ _. P) s' e' xs g
+      spatial_moved : (xs : List Spatial) (g : Cells) → Inside g h → Each (InSpatial IsMoved) xs
+          → SpatialHolds (λ _. P) s e xs g → SpatialHolds (λ _. P) s' e' xs g
       spatial_moved [] g w m a = a
       spatial_moved (x ∷ xs) g w m a =
           record {
@@ -78,10 +85,12 @@ module _ (move : ℕ → ℕ) (twice : (x : ℕ) → move (move x) ≡ x) (h : C
             rest = a.rest;
             union = a.union;
             first = atom_moved x a.part (inside_trans a.part g h (left_inside a.part a.rest g a.union) w) m.0 a.first;
-            others = spatial_moved xs a.rest (inside_trans a.rest g h (right_inside a.part a.rest g a.union) w) m.1 a.others;
+            others = spatial_moved xs a.rest (inside_trans a.rest g h (right_inside a.part a.rest g a.union) w)
+                m.1 a.others;
           }
 
-      pub holds_moved : (b : SymbolicHeap) (g : Cells) → Inside g h → InHeap IsMoved b → Holds (λ _. P) s e b g → Holds (λ _. P) s' e' b g
+      pub holds_moved : (b : SymbolicHeap) (g : Cells) → Inside g h → InHeap IsMoved b → Holds (λ _. P) s e b g
+          → Holds (λ _. P) s' e' b g
       holds_moved b g w m a = (pures_moved b.pure m.0 a.0, spatial_moved b.spatial g w m.1 a.1)
 
   pub index_moved : (s : Stack) (n : ℕ) → slice_index (map move s) n ≡ move (slice_index s n)
@@ -97,4 +106,9 @@ module _ (move : ℕ → ℕ) (twice : (x : ℕ) → move (move x) ≡ x) (h : C
   pub stage_moved : (ds : List Definition) (n : ℕ) → IsKept (at_stage ds n)
   stage_moved ds zero p vs g w a = absurd a
   stage_moved ds (suc n) p vs g w a =
-      OneOf-map (CaseHolds (at_stage ds n) vs g) (CaseHolds (at_stage ds n) (map move vs) g) (λ b c. (map move c.0, holds_moved vs c.0 (map move vs) (map move c.0) (at_stage ds n) (stage_moved ds n) b g w (in_heap_any (IsMoved vs c.0 (map move vs) (map move c.0)) (all_moved vs c.0) b) c.1)) (cases_of ds p) a
+      OneOf-map (CaseHolds (at_stage ds n) vs g) (CaseHolds (at_stage ds n) (map move vs) g)
+      (λ b c. (
+        map move c.0,
+        holds_moved vs c.0 (map move vs) (map move c.0) (at_stage ds n) (stage_moved ds n)
+            b g w (in_heap_any (IsMoved vs c.0 (map move vs) (map move c.0)) (all_moved vs c.0) b) c.1,
+      )) (cases_of ds p) a

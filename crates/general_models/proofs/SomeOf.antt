@@ -1,9 +1,10 @@
 -- Loops that look for a member of which something holds.
 use Rattle.std.specs.Prelude.{◌↔◌, IsTrue}
 use Rattle.std.proofs.lemmas.List.{drop_all}
-use Rattle.std.proofs.Common.{◌≡◌, ℕ, ◌+◌, ◌<◌, ◌≤◌, List, ◌∷◌, length, drop, get_or, Bool, true, false, ◌∙◌, inl, inr, sym, refl, subst}
+use Rattle.std.proofs.Common.{◌≡◌, ℕ, ◌+◌, ◌<◌, ◌≤◌, List, ◌∷◌, length, drop, get_or, Bool, true, false, ◌∙◌, inl, inr}
+use Rattle.std.proofs.Common.{sym, refl, subst}
 use Rattle.heap_formula.specs.Words.{OneOf}
-use Rattle.list_facts.proofs.Places.{drop_read}
+use Rattle.cyc_basics.proofs.Places.{drop_read}
 
 module _ {X : Type 0} (P : X → Type 0) (xs : List X) (i : ℕ) (left : OneOf P xs ↔ OneOf P (drop i xs)) where
   module _ (x : X) (lt : i < length xs) (is : x ≡ get_or xs i x) where
@@ -13,7 +14,11 @@ module _ {X : Type 0} (P : X → Type 0) (xs : List X) (i : ℕ) (left : OneOf P
 
     -- it does not
     pub passed : (P x → ⊥) → OneOf P xs ↔ OneOf P (drop (i + 1) xs)
-    passed n = (λ o. after (subst (OneOf P) (drop_read xs i x lt is) (left.0 o)), λ o. left.1 (subst (OneOf P) (sym (drop_read xs i x lt is)) (inr o)))
+    passed n = (
+      λ o. after (subst (OneOf P) (drop_read xs i x lt is) (left.0 o)),
+      λ o.
+          left.1 (subst (OneOf P) (sym (drop_read xs i x lt is)) (inr o)),
+    )
       where
         after : OneOf P (x ∷ drop (i + 1) xs) → OneOf P (drop (i + 1) xs)
         after (inl p) = absurd (n p)

@@ -1,2 +1,7 @@
 pub mod Ranges
 pub mod RangedGrounding
+pub mod Derivations
+pub mod Picks
+pub mod Runs
+pub mod Refuting
+pub mod Moves

@@ -9,7 +9,7 @@ use Rattle.heap_formula.specs.Words.{Each, OneOf}
 use Rattle.heap_formula.specs.Values.{Stack}
 use Rattle.heap_formula.specs.Cells.{Cells, IsHeap}
 use Rattle.heap_formula.specs.Meaning.{cases_of}
-use Rattle.list_facts.specs.Words.{tabulated}
+use Rattle.cyc_basics.specs.Words.{tabulated}
 use Rattle.model_check.specs.declared.ground.GroundRule.{GroundRule}
 use Rattle.model_check.specs.Questions.{Question}
 use Rattle.model_check.specs.Constructive.{Fits}
@@ -21,18 +21,23 @@ use Rattle.heap_formula.specs.Fresh.{heap_exists}
 use Rattle.general_models.specs.Ranges.{IsWithin, IsRangeFor, HaveFewVariables}
 
 -- some rule is this case at each choice of locals of the range that fits
-abbrev pub IsAnsweredOver : List ℕ → Cells → List ℕ → List Question → List GroundRule → ℕ → List ℕ → SymbolicHeap → Type 0
-IsAnsweredOver range h ns qs rules q vs b = (e : Stack) → IsWithin range e → Fits h vs e b → HasRule ns qs rules q vs e b.spatial
+abbrev pub IsAnsweredOver : List ℕ → Cells → List ℕ → List Question → List GroundRule → ℕ → List ℕ → SymbolicHeap
+    → Type 0
+IsAnsweredOver range h ns qs rules q vs b = (e : Stack) → IsWithin range e → Fits h vs e b
+    → HasRule ns qs rules q vs e b.spatial
 
 -- the rules are cases of the questions, and all of them for locals of the range
-pub record GroundsOver (range : List ℕ) (ds : List Definition) (h : Cells) (ns : List ℕ) (qs : List Question) (rules : List GroundRule) : Type 0 where
+pub record GroundsOver (range : List ℕ) (ds : List Definition) (h : Cells) (ns : List ℕ) (qs : List Question)
+    (rules : List GroundRule) : Type 0 where
   pub covers : Covers ns h
   pub heap : IsHeap h
   pub sound : Each (IsRule ds h ns qs) rules
-  pub complete : (q p : ℕ) (vs : List ℕ) → IsQuestion qs q p vs → Each (IsAnsweredOver range h ns qs rules q vs) (cases_of ds p)
+  pub complete : (q p : ℕ) (vs : List ℕ) → IsQuestion qs q p vs
+      → Each (IsAnsweredOver range h ns qs rules q vs) (cases_of ds p)
 
 -- after these cases at given values: what was added is rules of theirs, and all for locals of the range
-pub record GroundedOver (range : List ℕ) (h : Cells) (ns : List ℕ) (qs qs' : List Question) (rules rules' : List GroundRule) (head : ℕ) (vs : List ℕ) (bs : List SymbolicHeap) : Type 0 where
+pub record GroundedOver (range : List ℕ) (h : Cells) (ns : List ℕ) (qs qs' : List Question)
+    (rules rules' : List GroundRule) (head : ℕ) (vs : List ℕ) (bs : List SymbolicHeap) : Type 0 where
   pub extends : Extends qs qs'
   pub added : List GroundRule
   pub more : rules' ≡ rules ++ added
@@ -45,7 +50,8 @@ IsStackRule h ns qs head b stacks r =
     (r.head ≡ head) × OneOf (λ vs. (e : Stack) × Fits h vs e b × PiecesFit ns qs vs e b.spatial r.pieces) stacks
 
 -- after one case at each of these lists of values
-pub record GroundedStacks (h : Cells) (ns : List ℕ) (qs qs' : List Question) (rules rules' : List GroundRule) (head : ℕ) (b : SymbolicHeap) (stacks : List Stack) : Type 0 where
+pub record GroundedStacks (h : Cells) (ns : List ℕ) (qs qs' : List Question) (rules rules' : List GroundRule) (head : ℕ)
+    (b : SymbolicHeap) (stacks : List Stack) : Type 0 where
   pub extends : Extends qs qs'
   pub added : List GroundRule
   pub more : rules' ≡ rules ++ added
@@ -53,9 +59,11 @@ pub record GroundedStacks (h : Cells) (ns : List ℕ) (qs qs' : List Question) (
   pub has : Each (λ vs. (e : Stack) → Fits h vs e b → HasRule ns qs' rules' head vs e b.spatial) stacks
 
 -- the same for the questions below a number, as far as all questions go
-pub record IsGroundedOver (range : List ℕ) (ds : List Definition) (h : Cells) (ns : List ℕ) (qs : List Question) (rules : List GroundRule) (done : ℕ) : Type 0 where
+pub record IsGroundedOver (range : List ℕ) (ds : List Definition) (h : Cells) (ns : List ℕ) (qs : List Question)
+    (rules : List GroundRule) (done : ℕ) : Type 0 where
   pub sound : Each (IsRule ds h ns qs) rules
-  pub complete : (q p : ℕ) (vs : List ℕ) → q < done → IsQuestion qs q p vs → Each (IsAnsweredOver range h ns qs rules q vs) (cases_of ds p)
+  pub complete : (q p : ℕ) (vs : List ℕ) → q < done → IsQuestion qs q p vs
+      → Each (IsAnsweredOver range h ns qs rules q vs) (cases_of ds p)
 
 -- ---- a case whose open locals are parameters
 
@@ -84,8 +92,8 @@ with_values range s (suc n) = with_each range (with_values range s n)
 
 -- ---- the asked formula
 
--- the range serves for these definitions and this formula: it has a fresh value for each variable of a case, and for each
--- existential of the formula
+-- the range serves for these definitions and this formula: it has a fresh value for each variable of a case, and for
+-- each existential of the formula
 pub record Suffices (range : List ℕ) (ds : List Definition) (s : Stack) (h : Cells) (a : SymbolicHeap) : Type 0 where
   pub fresh : ℕ
   pub is_range : IsRangeFor s h fresh range
@@ -93,7 +101,8 @@ pub record Suffices (range : List ℕ) (ds : List Definition) (s : Stack) (h : C
   pub formula : heap_exists a ≤ fresh
 
 -- the table is solved for rules that the questions have
-pub record SolvesOver (range : List ℕ) (ds : List Definition) (h : Cells) (ns : List ℕ) (qs qs' : List Question) (table : List Row) : Type 0 where
+pub record SolvesOver (range : List ℕ) (ds : List Definition) (h : Cells) (ns : List ℕ) (qs qs' : List Question)
+    (table : List Row) : Type 0 where
   pub rules : List GroundRule
   pub extends : Extends qs qs'
   pub grounds : GroundsOver range ds h ns qs' rules

@@ -6,7 +6,7 @@ use Rattle.heap_formula.specs.Fresh.{heap_bound, heap_exists}
 use Rattle.heap_formula.specs.Words.{Each}
 use Rattle.heap_formula.specs.Values.{Stack}
 use Rattle.heap_formula.specs.Cells.{Cells, cell_at}
-use Rattle.list_facts.specs.Words.{IsMember}
+use Rattle.cyc_basics.specs.Words.{IsMember}
 
 -- a renaming of values that leaves 0 and the numbers of the heap where they are
 pub record Leaves (move : ℕ → ℕ) (h : Cells) : Type 0 where

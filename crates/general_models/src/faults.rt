@@ -1,5 +1,5 @@
 // Why a question about a model has no answer.
-use cyc_memory::OutOfMemory;
+use cyc_basics::memory::OutOfMemory;
 use std::alloc::{AllocError, AllocFailed};
 
 /// Why a question about a model has no answer: so many choices of locals were not allowed; or out of memory.

@@ -13,7 +13,7 @@ ghost use Rattle.general_models.specs.RangedGrounding.{SolvesOver, Suffices};
 use crate::faults::CheckFault;
 use crate::grounding::{ground_all, ground_ranged};
 use crate::ranges::{most_variables, range_of};
-use cyc_memory::OutOfMemory;
+use cyc_basics::memory::OutOfMemory;
 use goto_lang::{Cells, Stack};
 use heap_formula::{Heap, exists_in_heap};
 use indexmap::IndexSet;

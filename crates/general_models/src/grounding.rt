@@ -7,12 +7,12 @@ ghost use Rattle.model_check.specs.MaskParts.{Covers};
 ghost use Rattle.model_check.specs.Grounding.{Extends};
 ghost use Rattle.general_models.specs.Ranges.{IsWithin};
 ghost use Rattle.general_models.specs.RangedGrounding.{GroundedStacks, GroundedOver, GroundsOver};
-ghost use Rattle.list_facts.specs.Words.{IsMember};
+ghost use Rattle.cyc_basics.specs.Words.{IsMember};
 
 use crate::faults::CheckFault;
 use crate::opening::{open_locals, opened};
 use crate::stacks::{front, with_values};
-use cyc_memory::OutOfMemory;
+use cyc_basics::memory::OutOfMemory;
 use goto_lang::{Cells, Stack};
 use heap_formula::{Heap, bound_of_heap};
 use indexmap::IndexSet;

@@ -2,6 +2,7 @@
 //! heap does not determine the locals of a case (Brotherston, Gorogiannis, Kanovich and Rowe 2016).
 #![tactic(auto)]
 
+pub mod derivations;
 mod faults;
 mod general;
 mod grounding;
@@ -9,6 +10,7 @@ mod laws;
 mod opening;
 mod ranges;
 mod refuting;
+pub mod runs;
 mod stacks;
 
 pub use faults::CheckFault;

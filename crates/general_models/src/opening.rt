@@ -5,9 +5,9 @@ ghost use Rattle.heap_formula.specs.declared.terms.Term.TheVariants.{Exist, Univ
 ghost use Rattle.general_models.specs.RangedGrounding.{opened as opened_by};
 
 use crate::faults::CheckFault;
-use cyc_memory::OutOfMemory;
+use cyc_basics::memory::OutOfMemory;
 use heap_formula::{Heap, HeapFault, Pure, Term, exists_in_heap};
-use model_check::{Step, is_heap_known, is_known, known_terms, steps_of};
+use model_check::{ValueStep, is_heap_known, is_known, known_terms, steps_of};
 use std::alloc::Global;
 
 /// Locals of a formula that make all terms known once their values are: each is left open by the equations, the cells
@@ -23,7 +23,7 @@ pub fn open_locals(alloc: Global, heap: &Heap) -> Result<Vec<u16>, OutOfMemory> 
         let local = Term::Exist(n as u16);
         if !is_known(&known, local) {
             chosen.push(n as u16)?;
-            steps.push(Step::Same(Term::Nil, local))?;
+            steps.push(ValueStep::Same(Term::Nil, local))?;
         }
     }
     Ok(chosen)

@@ -1,11 +1,12 @@
 // The values over which those locals range that a heap does not determine.
 ghost use Rattle.std.specs.Prelude.{◌≡◌, ◌+◌, ◌<◌, ◌≤◌, ◌^◌, List, ℕ, Some, IfOk, OnOk, vec_len};
 ghost use Rattle.heap_formula.specs.Words.{Each, max_of};
-ghost use Rattle.list_facts.specs.Words.{IsMember};
-ghost use Rattle.general_models.specs.Ranges.{Occur, IsRange, HasFewVariables, HaveFewVariables, Takes, TakesAll, TakesCell, TakesCells, IsRangeFor};
+ghost use Rattle.cyc_basics.specs.Words.{IsMember};
+ghost use Rattle.general_models.specs.Ranges.{Occur, IsRange, HasFewVariables, HaveFewVariables, Takes, TakesAll};
+ghost use Rattle.general_models.specs.Ranges.{TakesCell, TakesCells, IsRangeFor};
 
 use crate::faults::CheckFault;
-use cyc_memory::OutOfMemory;
+use cyc_basics::memory::OutOfMemory;
 use goto_lang::Cells;
 use heap_formula::{Def, Heap, bound_of_heap, exists_in_heap};
 use indexmap::IndexSet;

@@ -1,8 +1,9 @@
 // Lists of values for the parameters of a case and its open locals.
 ghost use Rattle.std.specs.Prelude.{◌≡◌, List, ℕ, map, ◌++◌, ◌∷◌, [], IfOk, OnOk, slice_index};
-ghost use Rattle.general_models.specs.RangedGrounding.{front as first_values, with_each as with_each_value, with_values as with_all_values};
+ghost use Rattle.general_models.specs.RangedGrounding.{front as first_values, with_each as with_each_value};
+ghost use Rattle.general_models.specs.RangedGrounding.{with_values as with_all_values};
 
-use cyc_memory::OutOfMemory;
+use cyc_basics::memory::OutOfMemory;
 use goto_lang::Stack;
 use std::alloc::Global;
 

@@ -1,19 +1,22 @@
 -- Lines without a fault are a program.
-use Rattle.std.proofs.Common.{◌≡◌, ◌≢◌, ℕ, zero, suc, ◌+◌, ◌<◌, ◌≤◌, Bool, true, false, not, ◌&&◌, ◌||◌, cond, List, [], ◌∷◌, map, length, Option, Some, None, refl, sym, subst, arith}
+use Rattle.std.proofs.Common.{◌≡◌, ◌≢◌, ℕ, zero, suc, ◌+◌, ◌<◌, ◌≤◌, Bool, true, false, not, ◌&&◌, ◌||◌, cond, List, []}
+use Rattle.std.proofs.Common.{◌∷◌, map, length, Option, Some, None, refl, sym, subst, arith}
 use Rattle.std.specs.Prelude.{nat_eq, nat_lt, slice_get}
 use Rattle.std.proofs.lemmas.List.{length-map}
 use Rattle.std.proofs.lemmas.Bool.Decides.{nat_tests}
 use Rattle.heap_formula.specs.declared.terms.Term.{Term}
 use Rattle.heap_formula.specs.declared.terms.Term.TheVariants.{Nil, Univ, Exist}
 use Rattle.heap_formula.specs.declared.commands.Command.{Command}
-use Rattle.heap_formula.specs.declared.commands.Command.TheVariants.{Assign, Load, Store, New, Free, IfEq, IfNeq, IfAny, Goto, Stop}
+use Rattle.heap_formula.specs.declared.commands.Command.TheVariants.{Assign, Load, Store, New, Free, IfEq, IfNeq, IfAny}
+use Rattle.heap_formula.specs.declared.commands.Command.TheVariants.{Goto, Stop}
 use Rattle.heap_formula.specs.Words.{Each, max_of}
 use Rattle.heap_formula.specs.Programs.{counted_from_one, command_bound}
 use Rattle.heap_formula.specs.Fresh.{univ_bound}
-use Rattle.goto_lang.specs.Faults.{variable_fault, term_fault, field_fault, jump_fault, command_fault, goes_on, line_fault, lines_fault, program_fault}
+use Rattle.goto_lang.specs.Faults.{variable_fault, term_fault, field_fault, jump_fault, command_fault, goes_on}
+use Rattle.goto_lang.specs.Faults.{line_fault, lines_fault, program_fault}
 use Rattle.goto_lang.specs.Lines.{IsUniversalCommand, commands_of, IsFieldNumber, IsLineOf, MayStandAt, IsProgram}
 use Rattle.std.proofs.lemmas.Bool.{or_parts}
-use Rattle.list_facts.proofs.Options.{neither_some}
+use Rattle.cyc_basics.proofs.Options.{neither_some}
 
 no_choice : {X : Type 0} (b : Bool) (f : X) (o : Option X) → cond b (Some f) o ≡ None → (b ≡ false) × (o ≡ None)
 no_choice true f o e = cc
@@ -48,7 +51,8 @@ not_last n i true e f le = cc
 not_last n i false e f le = let d = not_equal i n e in grind arith
 
 -- a command without a fault at line i of n
-pub stands : (n i : ℕ) (x : Command) → i ≤ n → (nat_eq i n && goes_on x) ≡ false → command_fault n i x ≡ None → MayStandAt n i x × (command_bound x ≤ 64)
+pub stands : (n i : ℕ) (x : Command) → i ≤ n → (nat_eq i n && goes_on x) ≡ false → command_fault n i x ≡ None
+    → MayStandAt n i x × (command_bound x ≤ 64)
 stands n i (Assign x t) le l e =
     let r = neither_some (variable_fault x) (term_fault t) e in
     let v = variable_within x r.0 in
@@ -100,7 +104,8 @@ lines_few n i (l ∷ ls) le e =
     let f = (line_facts n i l r.0).few in
     let s = lines_few n (i + 1) ls (omega arith) r.1 in omega arith
 
-lines_bound : (n i : ℕ) (ls : List (ℕ × Command)) → i + length ls ≡ n + 1 → lines_fault n i ls ≡ None → max_of (map command_bound (commands_of ls)) ≤ 64
+lines_bound : (n i : ℕ) (ls : List (ℕ × Command)) → i + length ls ≡ n + 1 → lines_fault n i ls ≡ None
+    → max_of (map command_bound (commands_of ls)) ≤ 64
 lines_bound n i [] e f = omega arith
 lines_bound n i (l ∷ ls) e f =
     let r = neither_some (line_fault n i l) (lines_fault n (i + 1) ls) f in
@@ -108,20 +113,23 @@ lines_bound n i (l ∷ ls) e f =
     let s = (stands n i l.1 (omega arith) g.not_falling g.command).1 in
     let t = lines_bound n (i + 1) ls (omega arith) r.1 in omega arith
 
-lines_stand : (n i : ℕ) (ls : List (ℕ × Command)) → i + length ls ≡ n + 1 → lines_fault n i ls ≡ None → (k : ℕ) (x : Command) → slice_get (commands_of ls) k ≡ Some x → MayStandAt n (i + k) x
+lines_stand : (n i : ℕ) (ls : List (ℕ × Command)) → i + length ls ≡ n + 1 → lines_fault n i ls ≡ None
+    → (k : ℕ) (x : Command) → slice_get (commands_of ls) k ≡ Some x → MayStandAt n (i + k) x
 lines_stand n i [] e f k x at = cc
 lines_stand n i (l ∷ ls) e f zero x at =
     let r = neither_some (line_fault n i l) (lines_fault n (i + 1) ls) f in
     let g = line_facts n i l r.0 in
     let same : l.1 ≡ x = cc in
     let there : i ≡ i + 0 = omega arith in
-    subst (λ j. MayStandAt n j x) there (subst (MayStandAt n i) same (stands n i l.1 (omega arith) g.not_falling g.command).0)
+    subst (λ j. MayStandAt n j x) there (subst (MayStandAt n i) same
+    (stands n i l.1 (omega arith) g.not_falling g.command).0)
 lines_stand n i (l ∷ ls) e f (suc k) x at =
     let r = neither_some (line_fault n i l) (lines_fault n (i + 1) ls) f in
     let there : (i + 1) + k ≡ i + suc k = omega arith in
     subst (λ j. MayStandAt n j x) there (lines_stand n (i + 1) ls (omega arith) r.1 k x at)
 
-pub faultless_is_program : (ls : List (ℕ × Command)) → program_fault ls ≡ None → Each IsUniversalCommand (commands_of ls) → IsProgram (commands_of ls)
+pub faultless_is_program : (ls : List (ℕ × Command)) → program_fault ls ≡ None
+    → Each IsUniversalCommand (commands_of ls) → IsProgram (commands_of ls)
 faultless_is_program ls e u =
     let count : length (commands_of ls) ≡ length ls = length-map ls (λ (l : ℕ × Command). l.1) in
     let few = lines_few (length ls) 1 ls (omega arith) e in record {
@@ -131,9 +139,11 @@ faultless_is_program ls e u =
       universal = u;
     }
   where
-    stand : (i : ℕ) (x : Command) → counted_from_one (commands_of ls) i ≡ Some x → MayStandAt (length (commands_of ls)) i x
+    stand : (i : ℕ) (x : Command) → counted_from_one (commands_of ls) i ≡ Some x
+        → MayStandAt (length (commands_of ls)) i x
     stand zero x at = cc
     stand (suc k) x at =
         let count : length ls ≡ length (commands_of ls) = sym (length-map ls (λ (l : ℕ × Command). l.1)) in
         let there : 1 + k ≡ suc k = omega arith in
-        subst (λ n. MayStandAt n (suc k) x) count (subst (λ j. MayStandAt (length ls) j x) there (lines_stand (length ls) 1 ls (omega arith) e k x at))
+        subst (λ n. MayStandAt n (suc k) x) count (subst (λ j. MayStandAt (length ls) j x) there
+        (lines_stand (length ls) 1 ls (omega arith) e k x at))

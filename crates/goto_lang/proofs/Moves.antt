@@ -1,12 +1,15 @@
 -- One step: what a command makes of a state, that no two answers fit, and that the state stays one of the program.
-use Rattle.std.proofs.Common.{◌≡◌, ◌≢◌, ℕ, zero, suc, ◌+◌, ◌-◌, ◌<◌, ◌≤◌, ◌^◌, Bool, true, false, cond, ◌⊎◌, inl, inr, List, [], ◌∷◌, length, Option, Some, None, refl, sym, ap, subst, ◌∙◌, arith}
+use Rattle.std.proofs.Common.{◌≡◌, ◌≢◌, ℕ, zero, suc, ◌+◌, ◌-◌, ◌<◌, ◌≤◌, ◌^◌, Bool, true, false, cond, ◌⊎◌, inl, inr}
+use Rattle.std.proofs.Common.{List, [], ◌∷◌, length, Option, Some, None, refl, sym, ap, subst, ◌∙◌, arith}
 use Rattle.std.specs.Prelude.{◌↔◌, nat_eq, slice_get, slice_set}
 use Rattle.std.proofs.lemmas.List.{length-set}
 use Rattle.std.specs.FinMap.{insert}
 use Rattle.heap_formula.specs.declared.commands.Command.{Command}
-use Rattle.heap_formula.specs.declared.commands.Command.TheVariants.{Assign, Load, Store, New, Free, IfEq, IfNeq, IfAny, Goto, Stop as StopCommand}
+use Rattle.heap_formula.specs.declared.commands.Command.TheVariants.{Assign, Load, Store, New, Free, IfEq, IfNeq, IfAny}
+use Rattle.heap_formula.specs.declared.commands.Command.TheVariants.{Goto, Stop as StopCommand}
 use Rattle.heap_formula.specs.Words.{Each}
-use Rattle.heap_formula.specs.Programs.{Config as State, Goes, Faults, command_at, counted_from_one, field_of, value_in, greatest, next_line, jump}
+use Rattle.heap_formula.specs.Programs.{Config as State, Goes, Faults, command_at, counted_from_one, field_of, value_in}
+use Rattle.heap_formula.specs.Programs.{greatest, next_line, jump}
 use Rattle.heap_formula.proofs.StepLaws.{step_exists}
 use Rattle.goto_lang.specs.declared.configs.Config.{Config}
 use Rattle.goto_lang.specs.declared.steps.Stepped.{Stepped}
@@ -38,7 +41,8 @@ leads_same (Load x t k) a vs c d e p q =
     p.2 ∙ ap (λ v. next_line c (slice_set c.stack x v) c.heap) same ∙ sym q.2
 leads_same (Store t k u) a vs c d e p q =
     let same : p.0 ≡ q.0 = cc (p.2, q.2) in
-    p.4 ∙ ap (λ us. next_line c c.stack (insert c.heap (value_in c t) (slice_set us (k - 1) (value_in c u)))) same ∙ sym q.4
+    p.4 ∙ ap (λ us. next_line c c.stack (insert c.heap (value_in c t) (slice_set us (k - 1) (value_in c u)))) same
+    ∙ sym q.4
 leads_same (New x k) a vs c d e p q = p ∙ sym q
 leads_same (Free t) a vs c d e p q = p.2 ∙ sym q.2
 leads_same (IfEq t u j) a vs c d e p q = p ∙ sym q
@@ -78,29 +82,43 @@ one_command x y p q = cc
 pub same_config : (d e : Config) → state_of d ≡ state_of e → d ≡ e
 same_config d e p = λ i. record { line = (p i).line; stack = (p i).stack; heap = (p i).heap }
 
-pub one_answer : (lines : List Command) (w a : ℕ) (vs : List ℕ) (c : State) (r q : Stepped) → IsStep lines w a vs c r → IsStep lines w a vs c q → r ≡ q
+pub one_answer : (lines : List Command) (w a : ℕ) (vs : List ℕ) (c : State) (r q : Stepped) → IsStep lines w a vs c r
+    → IsStep lines w a vs c q → r ≡ q
 one_answer lines w a vs c Stop Stop h g = refl
 one_answer lines w a vs c Stop Fault h g = absurd (subst (λ x. Faults x c) (one_command g.0 StopCommand g.1 h) g.2)
-one_answer lines w a vs c Stop (To d) h g = absurd (subst (λ x. Leads x a vs c (state_of d)) (one_command g.0 StopCommand g.1 h) g.3)
-one_answer lines w a vs c Stop BadPick h g = absurd (subst (λ x. MayTake x w a vs c → ⊥) (one_command g.0 StopCommand g.1 h) g.2 tt)
+one_answer lines w a vs c Stop (To d) h g = absurd
+    (subst (λ x. Leads x a vs c (state_of d)) (one_command g.0 StopCommand g.1 h) g.3)
+one_answer lines w a vs c Stop BadPick h g = absurd
+    (subst (λ x. MayTake x w a vs c → ⊥) (one_command g.0 StopCommand g.1 h) g.2 tt)
 one_answer lines w a vs c Fault Stop h g = absurd (subst (λ x. Faults x c) (one_command h.0 StopCommand h.1 g) h.2)
 one_answer lines w a vs c Fault Fault h g = refl
-one_answer lines w a vs c Fault (To d) h g = absurd (leads_well g.0 a vs c (state_of d) g.3 (subst (λ x. Faults x c) (one_command h.0 g.0 h.1 g.1) h.2))
-one_answer lines w a vs c Fault BadPick h g = absurd (g.2 (faults_take g.0 w a vs c (subst (λ x. Faults x c) (one_command h.0 g.0 h.1 g.1) h.2)))
-one_answer lines w a vs c (To d) Stop h g = absurd (subst (λ x. Leads x a vs c (state_of d)) (one_command h.0 StopCommand h.1 g) h.3)
-one_answer lines w a vs c (To d) Fault h g = absurd (leads_well h.0 a vs c (state_of d) h.3 (subst (λ x. Faults x c) (one_command g.0 h.0 g.1 h.1) g.2))
+one_answer lines w a vs c Fault (To d) h g = absurd
+    (leads_well g.0 a vs c (state_of d) g.3 (subst (λ x. Faults x c) (one_command h.0 g.0 h.1 g.1) h.2))
+one_answer lines w a vs c Fault BadPick h g = absurd
+    (g.2 (faults_take g.0 w a vs c (subst (λ x. Faults x c) (one_command h.0 g.0 h.1 g.1) h.2)))
+one_answer lines w a vs c (To d) Stop h g = absurd
+    (subst (λ x. Leads x a vs c (state_of d)) (one_command h.0 StopCommand h.1 g) h.3)
+one_answer lines w a vs c (To d) Fault h g = absurd
+    (leads_well h.0 a vs c (state_of d) h.3 (subst (λ x. Faults x c) (one_command g.0 h.0 g.1 h.1) g.2))
 one_answer lines w a vs c (To d) (To e) h g =
-    ap To (same_config d e (leads_same h.0 a vs c (state_of d) (state_of e) h.3 (subst (λ x. Leads x a vs c (state_of e)) (one_command g.0 h.0 g.1 h.1) g.3)))
-one_answer lines w a vs c (To d) BadPick h g = absurd (g.2 (subst (λ x. MayTake x w a vs c) (one_command h.0 g.0 h.1 g.1) h.2))
-one_answer lines w a vs c BadPick Stop h g = absurd (subst (λ x. MayTake x w a vs c → ⊥) (one_command h.0 StopCommand h.1 g) h.2 tt)
-one_answer lines w a vs c BadPick Fault h g = absurd (h.2 (faults_take h.0 w a vs c (subst (λ x. Faults x c) (one_command g.0 h.0 g.1 h.1) g.2)))
-one_answer lines w a vs c BadPick (To d) h g = absurd (h.2 (subst (λ x. MayTake x w a vs c) (one_command g.0 h.0 g.1 h.1) g.2))
+    ap To (same_config d e (leads_same h.0 a vs c (state_of d) (state_of e) h.3
+    (subst (λ x. Leads x a vs c (state_of e)) (one_command g.0 h.0 g.1 h.1) g.3)))
+one_answer lines w a vs c (To d) BadPick h g = absurd
+    (g.2 (subst (λ x. MayTake x w a vs c) (one_command h.0 g.0 h.1 g.1) h.2))
+one_answer lines w a vs c BadPick Stop h g = absurd
+    (subst (λ x. MayTake x w a vs c → ⊥) (one_command h.0 StopCommand h.1 g) h.2 tt)
+one_answer lines w a vs c BadPick Fault h g = absurd
+    (h.2 (faults_take h.0 w a vs c (subst (λ x. Faults x c) (one_command g.0 h.0 g.1 h.1) g.2)))
+one_answer lines w a vs c BadPick (To d) h g = absurd
+    (h.2 (subst (λ x. MayTake x w a vs c) (one_command g.0 h.0 g.1 h.1) g.2))
 one_answer lines w a vs c BadPick BadPick h g = refl
 
-pub exactly : (lines : List Command) (w a : ℕ) (vs : List ℕ) (c : State) (r : Stepped) → IsStep lines w a vs c r → (q : Stepped) → (r ≡ q) ↔ IsStep lines w a vs c q
+pub exactly : (lines : List Command) (w a : ℕ) (vs : List ℕ) (c : State) (r : Stepped) → IsStep lines w a vs c r
+    → (q : Stepped) → (r ≡ q) ↔ IsStep lines w a vs c q
 exactly lines w a vs c r h q = (λ e. subst (IsStep lines w a vs c) e h, λ g. one_answer lines w a vs c r q h g)
 
-pub makes_step : (lines : List Command) (w a : ℕ) (vs : List ℕ) (c : State) (x : Command) (r : Stepped) → command_at lines c ≡ Some x → MayTake x w a vs c → Makes x a vs c r → IsStep lines w a vs c r
+pub makes_step : (lines : List Command) (w a : ℕ) (vs : List ℕ) (c : State) (x : Command) (r : Stepped)
+    → command_at lines c ≡ Some x → MayTake x w a vs c → Makes x a vs c r → IsStep lines w a vs c r
 makes_step lines w a vs c x Stop at may m = at ∙ ap Some m
 makes_step lines w a vs c x Fault at may m = (x, at, m)
 makes_step lines w a vs c x (To d) at may m = (x, at, may, m)
@@ -122,16 +140,72 @@ pub record Taken (x : Command) (w : ℕ) (c d : State) : Type 0 where
   pub leads : Leads x address fields c d
 
 pub taken : (x : Command) (w : ℕ) (c d : State) → greatest c + w < 2 ^ 64 → Goes x w c d → Taken x w c d
-taken (Assign x t) w c d h g = record { address = 0; fields = []; fits = omega arith; fields_fit = tt; may = tt; leads = g }
-taken (Load x t k) w c d h g = record { address = 0; fields = []; fits = omega arith; fields_fit = tt; may = tt; leads = g }
-taken (Store t k u) w c d h g = record { address = 0; fields = []; fits = omega arith; fields_fit = tt; may = tt; leads = g }
+taken (Assign x t) w c d h g = record {
+  address = 0;
+  fields = [];
+  fits = omega arith;
+  fields_fit = tt;
+  may = tt;
+  leads = g;
+}
+taken (Load x t k) w c d h g = record {
+  address = 0;
+  fields = [];
+  fits = omega arith;
+  fields_fit = tt;
+  may = tt;
+  leads = g;
+}
+taken (Store t k u) w c d h g = record {
+  address = 0;
+  fields = [];
+  fits = omega arith;
+  fields_fit = tt;
+  may = tt;
+  leads = g;
+}
 taken (New x k) w c d h g =
-    let l = g.2.within in record { address = g.0; fields = g.1; fits = omega arith; fields_fit = all_below (greatest c + w) g.1 h g.2.values_within; may = g.2; leads = g.3 }
+    let l = g.2.within in record {
+      address = g.0;
+      fields = g.1;
+      fits = omega arith;
+      fields_fit = all_below (greatest c + w) g.1 h g.2.values_within;
+      may = g.2;
+      leads = g.3;
+    }
 taken (Free t) w c d h g = record { address = 0; fields = []; fits = omega arith; fields_fit = tt; may = tt; leads = g }
-taken (IfEq t u j) w c d h g = record { address = 0; fields = []; fits = omega arith; fields_fit = tt; may = tt; leads = g }
-taken (IfNeq t u j) w c d h g = record { address = 0; fields = []; fits = omega arith; fields_fit = tt; may = tt; leads = g }
-taken (IfAny j) w c d h (inl g) = record { address = 1; fields = []; fits = omega arith; fields_fit = tt; may = omega arith; leads = g }
-taken (IfAny j) w c d h (inr g) = record { address = 0; fields = []; fits = omega arith; fields_fit = tt; may = omega arith; leads = g }
+taken (IfEq t u j) w c d h g = record {
+  address = 0;
+  fields = [];
+  fits = omega arith;
+  fields_fit = tt;
+  may = tt;
+  leads = g;
+}
+taken (IfNeq t u j) w c d h g = record {
+  address = 0;
+  fields = [];
+  fits = omega arith;
+  fields_fit = tt;
+  may = tt;
+  leads = g;
+}
+taken (IfAny j) w c d h (inl g) = record {
+  address = 1;
+  fields = [];
+  fits = omega arith;
+  fields_fit = tt;
+  may = omega arith;
+  leads = g;
+}
+taken (IfAny j) w c d h (inr g) = record {
+  address = 0;
+  fields = [];
+  fits = omega arith;
+  fields_fit = tt;
+  may = omega arith;
+  leads = g;
+}
 taken (Goto j) w c d h g = record { address = 0; fields = []; fits = omega arith; fields_fit = tt; may = tt; leads = g }
 taken StopCommand w c d h g = absurd g
 
@@ -151,9 +225,12 @@ goes (IfAny j) w a vs c d may l = one_of_two (nat_eq a 1) j (c.line + 1) c d l
 goes (Goto j) w a vs c d may l = l
 goes StopCommand w a vs c d may l = l
 
-pub successors : (lines : List Command) (w : ℕ) (c : State) (d : Config) → greatest c + w < 2 ^ 64 → IsSuccessor lines w c (state_of d) ↔ ((a : ℕ) × (vs : List ℕ) × (a < 2 ^ 64) × Each (λ v. v < 2 ^ 64) vs × IsStep lines w a vs c (To d))
+pub successors : (lines : List Command) (w : ℕ) (c : State) (d : Config) → greatest c + w < 2 ^ 64
+    → IsSuccessor lines w c (state_of d) ↔ ((a : ℕ) × (vs : List ℕ) × (a < 2 ^ 64) × Each (λ v. v < 2 ^ 64) vs
+    × IsStep lines w a vs c (To d))
 successors lines w c d h = (
-  λ s. let t = taken s.0 w c (state_of d) h s.2 in (t.address, t.fields, t.fits, t.fields_fit, (s.0, s.1, t.may, t.leads)),
+  λ s. let t = taken s.0 w c (state_of d) h s.2 in
+      (t.address, t.fields, t.fits, t.fields_fit, (s.0, s.1, t.may, t.leads)),
   λ s. let i = s.4 in (i.0, i.1, goes i.0 w s.0 s.1 c (state_of d) i.2 i.3),
 )
 
@@ -162,11 +239,14 @@ abbrev made : State → Config
 made d = record { line = d.line; stack = d.stack; heap = d.heap }
 
 -- with positive headroom there is a step
-pub some_step : (lines : List Command) (w : ℕ) (c : Config) (x : Command) → 0 < w → command_at lines (state_of c) ≡ Some x → x ≢ StopCommand → (¬ Faults x (state_of c)) → (a : ℕ) × (vs : List ℕ) × (d : Config) × IsStep lines w a vs (state_of c) (To d)
+pub some_step : (lines : List Command) (w : ℕ) (c : Config) (x : Command) → 0 < w
+    → command_at lines (state_of c) ≡ Some x → x ≢ StopCommand → (¬ Faults x (state_of c))
+    → (a : ℕ) × (vs : List ℕ) × (d : Config) × IsStep lines w a vs (state_of c) (To d)
 some_step lines w c x pos at ns nf =
     let s = step_exists lines w (state_of c) x pos at ns nf in picked x at s.0 s.1
   where
-    picked : (x : Command) → command_at lines (state_of c) ≡ Some x → (d : State) → Goes x w (state_of c) d → (a : ℕ) × (vs : List ℕ) × (d : Config) × IsStep lines w a vs (state_of c) (To d)
+    picked : (x : Command) → command_at lines (state_of c) ≡ Some x → (d : State) → Goes x w (state_of c) d
+        → (a : ℕ) × (vs : List ℕ) × (d : Config) × IsStep lines w a vs (state_of c) (To d)
     picked (New x k) at d g = (g.0, g.1, made d, (New x k, at, g.2, g.3))
     picked (Assign x t) at d g = (0, [], made d, (_, at, tt, g))
     picked (Load x t k) at d g = (0, [], made d, (_, at, tt, g))
@@ -181,11 +261,14 @@ some_step lines w c x pos at ns nf =
 
 -- ---- states of the program
 
-next_stays : (lines : List Command) (c d : State) (s : List ℕ) (h : _) → IsStateOf lines c → c.line < length lines → length s ≡ length c.stack → d ≡ next_line c s h → IsStateOf lines d
+next_stays : (lines : List Command) (c d : State) (s : List ℕ) (h : _) → IsStateOf lines c → c.line < length lines
+    → length s ≡ length c.stack → d ≡ next_line c s h → IsStateOf lines d
 next_stays lines c d s h is le same e =
-    let v = is.values in subst (IsStateOf lines) (sym e) (record { from_one = omega arith; to_last = omega arith; values = same ∙ v })
+    let v = is.values in subst (IsStateOf lines) (sym e) (record
+    { from_one = omega arith; to_last = omega arith; values = same ∙ v })
 
-jump_stays : (lines : List Command) (c d : State) (j : ℕ) → IsStateOf lines c → IsLineOf (length lines) j → d ≡ jump c j → IsStateOf lines d
+jump_stays : (lines : List Command) (c d : State) (j : ℕ) → IsStateOf lines c → IsLineOf (length lines) j → d ≡ jump c j
+    → IsStateOf lines d
 jump_stays lines c d j is l e =
     subst (IsStateOf lines) (sym e) (record { from_one = l.0; to_last = l.1; values = is.values })
 
@@ -193,19 +276,24 @@ either : (n : ℕ) (b : Bool) (i j : ℕ) → IsLineOf n i → IsLineOf n j → 
 either n true i j p q = p
 either n false i j p q = q
 
-pub leads_stay : (lines : List Command) (x : Command) (a : ℕ) (vs : List ℕ) (c d : State) → IsStateOf lines c → MayStandAt (length lines) c.line x → Leads x a vs c d → IsStateOf lines d
+pub leads_stay : (lines : List Command) (x : Command) (a : ℕ) (vs : List ℕ) (c d : State) → IsStateOf lines c
+    → MayStandAt (length lines) c.line x → Leads x a vs c d → IsStateOf lines d
 leads_stay lines (Assign x t) a vs c d is may l = next_stays lines c d _ _ is may (length-set c.stack x _) l
 leads_stay lines (Load x t k) a vs c d is may l = next_stays lines c d _ _ is may.0 (length-set c.stack x _) l.2
 leads_stay lines (Store t k u) a vs c d is may l = next_stays lines c d _ _ is may.0 refl l.4
 leads_stay lines (New x k) a vs c d is may l = next_stays lines c d _ _ is may.0 (length-set c.stack x _) l
 leads_stay lines (Free t) a vs c d is may l = next_stays lines c d _ _ is may refl l.2
-leads_stay lines (IfEq t u j) a vs c d is may l = let lt = may.0 in jump_stays lines c d _ is (either (length lines) _ j (c.line + 1) may.1 (omega arith, omega arith)) l
-leads_stay lines (IfNeq t u j) a vs c d is may l = let lt = may.0 in jump_stays lines c d _ is (either (length lines) _ (c.line + 1) j (omega arith, omega arith) may.1) l
-leads_stay lines (IfAny j) a vs c d is may l = let lt = may.0 in jump_stays lines c d _ is (either (length lines) _ j (c.line + 1) may.1 (omega arith, omega arith)) l
+leads_stay lines (IfEq t u j) a vs c d is may l = let lt = may.0 in
+    jump_stays lines c d _ is (either (length lines) _ j (c.line + 1) may.1 (omega arith, omega arith)) l
+leads_stay lines (IfNeq t u j) a vs c d is may l = let lt = may.0 in
+    jump_stays lines c d _ is (either (length lines) _ (c.line + 1) j (omega arith, omega arith) may.1) l
+leads_stay lines (IfAny j) a vs c d is may l = let lt = may.0 in
+    jump_stays lines c d _ is (either (length lines) _ j (c.line + 1) may.1 (omega arith, omega arith)) l
 leads_stay lines (Goto j) a vs c d is may l = jump_stays lines c d j is may l
 leads_stay lines StopCommand a vs c d is may l = absurd l
 
-pub new_takes : (x : Command) (w a : ℕ) (vs : List ℕ) (c : State) (n i : ℕ) → MayTake x w a vs c → MayStandAt n i x → (y k : ℕ) → x ≡ New y k → (0 < a) × (0 < length vs)
+pub new_takes : (x : Command) (w a : ℕ) (vs : List ℕ) (c : State) (n i : ℕ) → MayTake x w a vs c → MayStandAt n i x
+    → (y k : ℕ) → x ≡ New y k → (0 < a) × (0 < length vs)
 new_takes (New x k) w a vs c n i may s y j e = let l = s.1.0 in let m = may.count in (may.positive, omega arith)
 new_takes (Assign x t) w a vs c n i may s y j e = cc
 new_takes (Load x t k) w a vs c n i may s y j e = cc
@@ -217,6 +305,8 @@ new_takes (IfAny k) w a vs c n i may s y j e = cc
 new_takes (Goto k) w a vs c n i may s y j e = cc
 new_takes StopCommand w a vs c n i may s y j e = cc
 
-pub makes_stay : (lines : List Command) (a : ℕ) (vs : List ℕ) (c : State) (x : Command) (r : Stepped) (d : Config) → IsProgram lines → IsStateOf lines c → command_at lines c ≡ Some x → Makes x a vs c r → r ≡ To d → IsStateOf lines (state_of d)
+pub makes_stay : (lines : List Command) (a : ℕ) (vs : List ℕ) (c : State) (x : Command) (r : Stepped) (d : Config)
+    → IsProgram lines → IsStateOf lines c → command_at lines c ≡ Some x → Makes x a vs c r → r ≡ To d
+    → IsStateOf lines (state_of d)
 makes_stay lines a vs c x r d program is at m e =
     leads_stay lines x a vs c (state_of d) is (program.commands c.line x at) (subst (Makes x a vs c) e m)

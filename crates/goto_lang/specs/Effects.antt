@@ -29,7 +29,8 @@ abbrev pub IsStore : ℕ → ℕ → ℕ → State → Stepped → Type 0
 IsStore a k v c Stop = ⊥
 IsStore a k v c Fault = field_at c.heap a k ≡ None
 IsStore a k v c (To d) =
-    (vs : List ℕ) × (u : ℕ) × (cell_at c.heap a ≡ Some vs) × (counted_from_one vs k ≡ Some u) × (state_of d ≡ next_line c c.stack (insert c.heap a (slice_set vs (k - 1) v)))
+    (vs : List ℕ) × (u : ℕ) × (cell_at c.heap a ≡ Some vs) × (counted_from_one vs k ≡ Some u)
+    × (state_of d ≡ next_line c c.stack (insert c.heap a (slice_set vs (k - 1) v)))
 IsStore a k v c BadPick = ⊥
 
 -- what `free address` makes of c

@@ -34,11 +34,13 @@ LowestRun lines (suc n) c d = (m : State) × LowestRun lines n c m × LowestStep
 -- the run from c, of at most this many steps: it stops after n, it faults after n, or it makes them all and does
 -- neither then
 abbrev pub IsEnding : List Command → ℕ → State → Ran → Type 0
-IsEnding lines steps c (Stopped n) = (n ≤ steps) × (d : State) × LowestRun lines n c d × (command_at lines d ≡ Some StopCommand)
+IsEnding lines steps c (Stopped n) = (n ≤ steps) × (d : State) × LowestRun lines n c d
+    × (command_at lines d ≡ Some StopCommand)
 IsEnding lines steps c (Faulted n) =
     (n ≤ steps) × (d : State) × (x : Command) × LowestRun lines n c d × (command_at lines d ≡ Some x) × Faults x d
 IsEnding lines steps c Running =
-    (d : State) × (x : Command) × LowestRun lines steps c d × (command_at lines d ≡ Some x) × (x ≢ StopCommand) × (¬ Faults x d)
+    (d : State) × (x : Command) × LowestRun lines steps c d × (command_at lines d ≡ Some x) × (x ≢ StopCommand)
+    × (¬ Faults x d)
 
 -- the step from c that picks as above: it is at `stop`, it faults, or it leads to a state of the program
 abbrev pub IsLowest : List Command → State → Stepped → Type 0

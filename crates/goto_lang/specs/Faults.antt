@@ -1,11 +1,13 @@
 -- Why numbered lines are no program: the first fault in the order of the text.
-use Rattle.std.specs.Prelude.{◌≡◌, ℕ, ◌+◌, Result, Ok, Err, List, [], ◌∷◌, length, Bool, true, false, not, ◌&&◌, ◌||◌, nat_eq, nat_lt, if◌then◌else◌, Option, Some, None}
+use Rattle.std.specs.Prelude.{◌≡◌, ℕ, ◌+◌, Result, Ok, Err, List, [], ◌∷◌, length, Bool, true, false, not, ◌&&◌, ◌||◌}
+use Rattle.std.specs.Prelude.{nat_eq, nat_lt, if◌then◌else◌, Option, Some, None}
 use Rattle.std.specs.Option.{option_or}
-use Rattle.cyc_limits.specs.declared.TheConstants.{GREATEST_PROGRAM_VARIABLE, MOST_ARGUMENTS, MOST_LINES}
+use Rattle.cyc_basics.specs.declared.limits.TheConstants.{GREATEST_PROGRAM_VARIABLE, MOST_ARGUMENTS, MOST_LINES}
 use Rattle.heap_formula.specs.declared.terms.Term.{Term}
 use Rattle.heap_formula.specs.declared.terms.Term.TheVariants.{Nil, Univ, Exist}
 use Rattle.heap_formula.specs.declared.commands.Command.{Command}
-use Rattle.heap_formula.specs.declared.commands.Command.TheVariants.{Assign, Load, Store, New, Free, IfEq, IfNeq, IfAny, Goto, Stop}
+use Rattle.heap_formula.specs.declared.commands.Command.TheVariants.{Assign, Load, Store, New, Free, IfEq, IfNeq, IfAny}
+use Rattle.heap_formula.specs.declared.commands.Command.TheVariants.{Goto, Stop}
 use Rattle.heap_formula.specs.declared.heaps.Count.TheVariants.{Lines, ProgramVariables, Fields}
 use Rattle.goto_lang.specs.declared.faults.ProgramFault.{ProgramFault}
 use Rattle.goto_lang.specs.declared.faults.ProgramFault.TheVariants.{Jump, FallsOff, Numbering, Limit, OutOfMemory}

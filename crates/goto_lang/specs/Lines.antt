@@ -1,8 +1,9 @@
 -- What the lines of a program keep.
 use Rattle.std.specs.Prelude.{◌≡◌, ℕ, ◌<◌, ◌≤◌, List, map, length, Some}
-use Rattle.cyc_limits.specs.declared.TheConstants.{MOST_ARGUMENTS, MOST_LINES, MOST_VARIABLES}
+use Rattle.cyc_basics.specs.declared.limits.TheConstants.{MOST_ARGUMENTS, MOST_LINES, MOST_VARIABLES}
 use Rattle.heap_formula.specs.declared.commands.Command.{Command}
-use Rattle.heap_formula.specs.declared.commands.Command.TheVariants.{Assign, Load, Store, New, Free, IfEq, IfNeq, IfAny, Goto, Stop}
+use Rattle.heap_formula.specs.declared.commands.Command.TheVariants.{Assign, Load, Store, New, Free, IfEq, IfNeq, IfAny}
+use Rattle.heap_formula.specs.declared.commands.Command.TheVariants.{Goto, Stop}
 use Rattle.heap_formula.specs.Words.{Each}
 use Rattle.heap_formula.specs.Closedness.{IsUniversal}
 use Rattle.heap_formula.specs.Programs.{counted_from_one, program_variables}

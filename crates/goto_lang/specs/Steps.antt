@@ -14,8 +14,8 @@ MayTake (New x k) w a vs c = MayPick w c k a vs
 MayTake (IfAny j) w a vs c = a ≤ 1
 MayTake x w a vs c = Unit {0}
 
--- the command leads from c to d: `new` takes this address and these values, and `if *` jumps where 1 is picked; the headroom
--- matters to `new` alone
+-- the command leads from c to d: `new` takes this address and these values, and `if *` jumps where 1 is picked; the
+-- headroom matters to `new` alone
 abbrev pub Leads : Command → ℕ → List ℕ → State → State → Type 0
 Leads (New x k) a vs c d = d ≡ next_line c (slice_set c.stack x a) (insert c.heap a vs)
 Leads (IfAny j) a vs c d = d ≡ jump c (if nat_eq a 1 then j else c.line + 1)

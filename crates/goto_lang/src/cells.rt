@@ -9,7 +9,7 @@ ghost use Rattle.heap_formula.specs.Programs.{cell_numbers};
 ghost use Rattle.goto_lang.specs.States.{IsLeastFree};
 
 use crate::stacks::greatest_of;
-use cyc_memory::OutOfMemory;
+use cyc_basics::memory::OutOfMemory;
 use std::alloc::{AllocError, Global};
 use std::collections::BTreeMap;
 use std::marker::Model;

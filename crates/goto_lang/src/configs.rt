@@ -41,7 +41,8 @@ impl Config {
         greatest_of(self.stack.as_slice()).max(self.heap.greatest())
     }
 
-    /// Whether the program can run from here: the line is one of its lines, and the stack has a value for each variable.
+    /// Whether the program can run from here: the line is one of its lines, and the stack has a value for each
+    /// variable.
     pub fn is_state_of(&self, program: &Program) -> bool
         ensures { IsTrue result ↔ IsStateOf program.now (state_of self.now) }
     {

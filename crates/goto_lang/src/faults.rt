@@ -1,11 +1,11 @@
 // Why numbered lines are no program.
-use cyc_memory::OutOfMemory;
+use cyc_basics::memory::OutOfMemory;
 use heap_formula::Count;
 use std::alloc::{AllocError, AllocFailed};
 
-/// Why numbered lines are no program. A line jumps to no line; the last line is neither `stop` nor `goto`; a line's number
-/// is not its place; there are too many lines, a variable is past the 64th, or a field is not 1 to 8. The numbers are the
-/// places of the lines, counted from 1.
+/// Why numbered lines are no program. A line jumps to no line; the last line is neither `stop` nor `goto`; a line's
+/// number is not its place; there are too many lines, a variable is past the 64th, or a field is not 1 to 8. The
+/// numbers are the places of the lines, counted from 1.
 #[derive(Clone, Copy, Debug)]
 pub enum ProgramFault {
     Jump(u32),

@@ -17,7 +17,8 @@ pub fn some_step_is_allowed()
         → (a : ℕ) × (vs : List ℕ) × (d : Config) × IsStep lines w a vs (state_of c) (To d) }
 {}
 
-/// A state is a successor exactly where some step leads to it, with an address and fields that the machine's words hold.
+/// A state is a successor exactly where some step leads to it, with an address and fields that the machine's words
+/// hold.
 pub fn successors_are_steps()
     ensures { (lines : List Command) (w : ℕ) (c : Config) (d : Config) → greatest (state_of c) + w < 2 ^ 64
         → IsSuccessor lines w (state_of c) (state_of d) ↔ ((a : ℕ) × (vs : List ℕ) × (a < 2 ^ 64)

@@ -1,14 +1,16 @@
 // Programs of numbered lines.
-ghost use Rattle.std.specs.Prelude.{◌≡◌, ◌+◌, ◌<◌, ◌≤◌, List, length, max, IfOk, IsOkUnless, Result, Ok, Err, Some, None};
+ghost use Rattle.std.specs.Prelude.{◌≡◌, ◌+◌, ◌<◌, ◌≤◌, List, length, max, IfOk, IsOkUnless, Result, Ok, Err, Some};
+ghost use Rattle.std.specs.Prelude.{None};
 ghost use Rattle.heap_formula.specs.declared.commands.Command.{Command};
 ghost use Rattle.heap_formula.specs.Words.{Each};
 ghost use Rattle.heap_formula.specs.Programs.{counted_from_one, command_bound, program_variables};
 ghost use Rattle.heap_formula.specs.Fresh.{univ_bound};
-ghost use Rattle.goto_lang.specs.Faults.{variable_fault, term_fault, field_fault, jump_fault, command_fault, goes_on as may_go_on, line_fault, program_fault, IsAnswer};
+ghost use Rattle.goto_lang.specs.Faults.{variable_fault, term_fault, field_fault, jump_fault, command_fault};
+ghost use Rattle.goto_lang.specs.Faults.{goes_on as may_go_on, line_fault, program_fault, IsAnswer};
 ghost use Rattle.goto_lang.specs.Lines.{IsUniversalCommand, commands_of, IsProgram};
 
 use crate::faults::ProgramFault;
-use cyc_limits::{MOST_ARGUMENTS, MOST_LINES, MOST_VARIABLES};
+use cyc_basics::limits::{MOST_ARGUMENTS, MOST_LINES, MOST_VARIABLES};
 use heap_formula::{Command, Count, Term};
 use std::alloc::{AllocError, Global};
 use std::marker::Model;

@@ -9,7 +9,7 @@ use crate::cells::Cells;
 use crate::configs::Config;
 use crate::programs::Program;
 use crate::steps::{Stepped, perform};
-use cyc_memory::OutOfMemory;
+use cyc_basics::memory::OutOfMemory;
 use heap_formula::Command;
 use std::alloc::Global;
 

@@ -1,9 +1,11 @@
 // One step of a program.
-ghost use Rattle.std.specs.Prelude.{◌≡◌, ◌+◌, ◌-◌, ◌^◌, ◌<◌, ◌≤◌, ◌↔◌, ℕ, length, IsTrue, IfOk, Some, None, if◌then◌else◌, slice_set};
+ghost use Rattle.std.specs.Prelude.{◌≡◌, ◌+◌, ◌-◌, ◌^◌, ◌<◌, ◌≤◌, ◌↔◌, ℕ, length, IsTrue, IfOk, Some, None};
+ghost use Rattle.std.specs.Prelude.{if◌then◌else◌, slice_set};
 ghost use Rattle.std.specs.FinMap.{insert, remove};
 ghost use Rattle.heap_formula.specs.declared.commands.Command.TheVariants.{New as NewCell};
 ghost use Rattle.heap_formula.specs.Words.{Each};
-ghost use Rattle.heap_formula.specs.Programs.{counted_from_one, field_at, command_bound, greatest, next_line, jump, MayPick};
+ghost use Rattle.heap_formula.specs.Programs.{counted_from_one, field_at, command_bound, greatest, next_line, jump};
+ghost use Rattle.heap_formula.specs.Programs.{MayPick};
 ghost use Rattle.goto_lang.specs.declared.configs.Config.{Config};
 ghost use Rattle.goto_lang.specs.States.{state_of, IsStateOf};
 ghost use Rattle.goto_lang.specs.Steps.{MayTake, IsStep};
@@ -12,7 +14,7 @@ ghost use Rattle.goto_lang.specs.Effects.{Makes, IsLoad, IsStore, IsFree, IsJump
 use crate::cells::Cells;
 use crate::configs::Config;
 use crate::programs::Program;
-use cyc_memory::OutOfMemory;
+use cyc_basics::memory::OutOfMemory;
 use heap_formula::Command;
 use std::alloc::Global;
 
@@ -233,8 +235,9 @@ fn may_take(command: Command, config: &Config, w: u64, pick: u64, fill: &[u64]) 
 }
 
 /// One step of the program under headroom w, in which `new` takes the address `pick` and the values `fill`, and `if *`
-/// jumps at the pick 1 and goes to the next line at the pick 0: each answer comes exactly where the definition of a step
-/// says so. The caller has a state of the program, as `is_state_of` tests, and a headroom that fits, as `greatest` tells.
+/// jumps at the pick 1 and goes to the next line at the pick 0: each answer comes exactly where the definition of a
+/// step says so. The caller has a state of the program, as `is_state_of` tests, and a headroom that fits, as `greatest`
+/// tells.
 pub fn step(
     alloc: Global,
     program: &Program,

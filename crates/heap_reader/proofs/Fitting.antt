@@ -12,7 +12,8 @@ use Rattle.heap_syntax.specs.Versions.{most_spatial}
 use Rattle.heap_syntax.specs.Trees.{Spatial, Cell, Predicate, Heap}
 use Rattle.heap_reader.specs.Trees.{Heading}
 use Rattle.heap_reader.specs.Spans.{pure_span, pures_span, spatial_span, heap_span}
-use Rattle.heap_reader.specs.Flaws.{Found, over_if, or_later, listed_flaw, argument_flaw, arguments_flaw, pure_flaw, arity_in, use_flaw, spatial_flaw, heap_flaw, counted_flaw, heaps_flaw}
+use Rattle.heap_reader.specs.Flaws.{Found, over_if, or_later, listed_flaw, argument_flaw, arguments_flaw, pure_flaw}
+use Rattle.heap_reader.specs.Flaws.{arity_in, use_flaw, spatial_flaw, heap_flaw, counted_flaw, heaps_flaw}
 use Rattle.heap_reader.specs.Small.{IsSmall, AreSmallTerms, IsSmallPure, IsSmallSpatial, IsSmallHeap}
 use Rattle.heap_reader.proofs.NoFlaw.{neither, not_over, below, each_of, few_all}
 
@@ -25,62 +26,85 @@ most_fits Two = omega arith
 module _ {T : Type 0} (flaw : ℕ → T → Found) (span : T → ℕ) (most : ℕ) (hs : List Heading) where
   pub spatial_few : (n k : ℕ) (x : Spatial T) → spatial_flaw flaw span most hs n k x ≡ None → n < most
   spatial_few n k (Cell t ts) e =
-      below most n (not_over _ SpatialAtoms k (neither (over_if (nat_le most n) SpatialAtoms k) (or_later (flaw k t) (arguments_flaw flaw span (k + span t + 1) ts)) e).0)
+      below most n (not_over _ SpatialAtoms k (neither (over_if (nat_le most n) SpatialAtoms k)
+      (or_later (flaw k t) (arguments_flaw flaw span (k + span t + 1) ts)) e).0)
   spatial_few n k (Predicate name ts) e =
-      let a = neither (use_flaw (arity_in hs name) (length ts) k) (or_later (over_if (nat_le most n) SpatialAtoms k) (arguments_flaw flaw span (k + 2) ts)) e in
-      below most n (not_over _ SpatialAtoms k (neither (over_if (nat_le most n) SpatialAtoms k) (arguments_flaw flaw span (k + 2) ts) a.1).0)
+      let a = neither (use_flaw (arity_in hs name) (length ts) k)
+      (or_later (over_if (nat_le most n) SpatialAtoms k) (arguments_flaw flaw span (k + 2) ts)) e in
+      below most n (not_over _ SpatialAtoms k (neither (over_if (nat_le most n) SpatialAtoms k)
+      (arguments_flaw flaw span (k + 2) ts) a.1).0)
 
   pub heap_few : (k : ℕ) (h : Heap T) → heap_flaw flaw span most hs k h ≡ None → length h.spatial ≤ most
   heap_few k h e =
       let p = k + pures_span span h.pure in
-      let a = neither (listed_flaw (pure_flaw flaw span) (pure_span span) 0 k h.pure) (listed_flaw (spatial_flaw flaw span most hs) (spatial_span span) 0 p h.spatial) e in
+      let a = neither (listed_flaw (pure_flaw flaw span) (pure_span span) 0 k h.pure)
+      (listed_flaw (spatial_flaw flaw span most hs) (spatial_span span) 0 p h.spatial) e in
       few_all (spatial_flaw flaw span most hs) (spatial_span span) most (λ n j x g. spatial_few n j x g) p h.spatial a.1
 
-  pub heaps_few : (what : What) (k : ℕ) (heaps : List (Heap T)) → heaps_flaw flaw span most hs what k heaps ≡ None → Each (λ (h : Heap T). length h.spatial ≤ most) heaps
+  pub heaps_few : (what : What) (k : ℕ) (heaps : List (Heap T)) → heaps_flaw flaw span most hs what k heaps ≡ None
+      → Each (λ (h : Heap T). length h.spatial ≤ most) heaps
   heaps_few what k heaps e =
-      each_of (counted_flaw flaw span most hs what) (heap_span span) (λ (h : Heap T). length h.spatial ≤ most) (λ n j h g. heap_few j h (neither (over_if (nat_le 16 n) what j) (heap_flaw flaw span most hs j h) g).1) 0 k heaps e
+      each_of (counted_flaw flaw span most hs what) (heap_span span) (λ (h : Heap T). length h.spatial ≤ most)
+      (λ n j h g. heap_few j h (neither (over_if (nat_le 16 n) what j) (heap_flaw flaw span most hs j h) g).1)
+      0 k heaps e
 
-module _ {T : Type 0} (flaw : ℕ → T → Found) (span : T → ℕ) (value : T → Term) (small : (k : ℕ) (t : T) → flaw k t ≡ None → IsSmall value t) where
+module _ {T : Type 0} (flaw : ℕ → T → Found) (span : T → ℕ) (value : T → Term)
+    (small : (k : ℕ) (t : T) → flaw k t ≡ None → IsSmall value t) where
   arguments_small : (k : ℕ) (ts : List T) → arguments_flaw flaw span k ts ≡ None → AreSmallTerms value ts
   arguments_small k ts e = (
-    each_of (argument_flaw flaw span) span (IsSmall value) (λ n j t h. small j t (neither (over_if (nat_le 8 n) Arguments j) (flaw j t) h).1) 0 k ts e,
-    few_all (argument_flaw flaw span) span 8 (λ n j t h. below 8 n (not_over _ Arguments j (neither (over_if (nat_le 8 n) Arguments j) (flaw j t) h).0)) k ts e,
+    each_of (argument_flaw flaw span) span (IsSmall value)
+        (λ n j t h. small j t (neither (over_if (nat_le 8 n) Arguments j) (flaw j t) h).1) 0 k ts e,
+    few_all (argument_flaw flaw span) span 8 (λ n j t h. below 8 n
+        (not_over _ Arguments j (neither (over_if (nat_le 8 n) Arguments j) (flaw j t) h).0)) k ts e,
   )
 
-  pures_small : (k : ℕ) (xs : List (PureTree T)) → listed_flaw (pure_flaw flaw span) (pure_span span) 0 k xs ≡ None → Each (IsSmallPure value) xs × (length xs ≤ 64)
+  pures_small : (k : ℕ) (xs : List (PureTree T)) → listed_flaw (pure_flaw flaw span) (pure_span span) 0 k xs ≡ None
+      → Each (IsSmallPure value) xs × (length xs ≤ 64)
   pures_small k xs e = (
     each_of (pure_flaw flaw span) (pure_span span) (IsSmallPure value) (λ n j x h.
-        let both = neither (flaw j x.left) (flaw (j + span x.left) x.right) (neither (over_if (nat_le 64 n) Pure j) (or_later (flaw j x.left) (flaw (j + span x.left) x.right)) h).1 in
+        let both = neither (flaw j x.left) (flaw (j + span x.left) x.right)
+        (neither (over_if (nat_le 64 n) Pure j) (or_later (flaw j x.left) (flaw (j + span x.left) x.right)) h).1 in
         (small j x.left both.0, small (j + span x.left) x.right both.1)) 0 k xs e,
-    few_all (pure_flaw flaw span) (pure_span span) 64 (λ n j x h. below 64 n (not_over _ Pure j (neither (over_if (nat_le 64 n) Pure j) (or_later (flaw j x.left) (flaw (j + span x.left) x.right)) h).0)) k xs e,
+    few_all (pure_flaw flaw span) (pure_span span) 64
+        (λ n j x h. below 64 n (not_over _ Pure j (neither (over_if (nat_le 64 n) Pure j)
+        (or_later (flaw j x.left) (flaw (j + span x.left) x.right)) h).0)) k xs e,
   )
 
   module _ (most : ℕ) (few : most ≤ 32) (hs : List Heading) where
     spatial_small : (n k : ℕ) (x : Spatial T) → spatial_flaw flaw span most hs n k x ≡ None → IsSmallSpatial value x
     spatial_small n k (Cell t ts) e =
-        let a = neither (over_if (nat_le most n) SpatialAtoms k) (or_later (flaw k t) (arguments_flaw flaw span (k + span t + 1) ts)) e in
+        let a = neither (over_if (nat_le most n) SpatialAtoms k)
+        (or_later (flaw k t) (arguments_flaw flaw span (k + span t + 1) ts)) e in
         let b = neither (flaw k t) (arguments_flaw flaw span (k + span t + 1) ts) a.1 in
         (small k t b.0, arguments_small (k + span t + 1) ts b.1)
     spatial_small n k (Predicate name ts) e =
-        let a = neither (use_flaw (arity_in hs name) (length ts) k) (or_later (over_if (nat_le most n) SpatialAtoms k) (arguments_flaw flaw span (k + 2) ts)) e in
+        let a = neither (use_flaw (arity_in hs name) (length ts) k)
+        (or_later (over_if (nat_le most n) SpatialAtoms k) (arguments_flaw flaw span (k + 2) ts)) e in
         let b = neither (over_if (nat_le most n) SpatialAtoms k) (arguments_flaw flaw span (k + 2) ts) a.1 in
         arguments_small (k + 2) ts b.1
 
     pub heap_small : (k : ℕ) (h : Heap T) → heap_flaw flaw span most hs k h ≡ None → IsSmallHeap value h
     heap_small k h e =
         let p = k + pures_span span h.pure in
-        let a = neither (listed_flaw (pure_flaw flaw span) (pure_span span) 0 k h.pure) (listed_flaw (spatial_flaw flaw span most hs) (spatial_span span) 0 p h.spatial) e in
+        let a = neither (listed_flaw (pure_flaw flaw span) (pure_span span) 0 k h.pure)
+        (listed_flaw (spatial_flaw flaw span most hs) (spatial_span span) 0 p h.spatial) e in
         let pures = pures_small k h.pure a.0 in
         let spatials = heap_few flaw span most hs k h e in
         record {
           pure = pures.0;
           pure_few = pures.1;
-          spatial = each_of (spatial_flaw flaw span most hs) (spatial_span span) (IsSmallSpatial value) (λ n j x g. spatial_small n j x g) 0 p h.spatial a.1;
+          spatial = each_of (spatial_flaw flaw span most hs) (spatial_span span) (IsSmallSpatial value)
+              (λ n j x g. spatial_small n j x g) 0 p h.spatial a.1;
           spatial_few = omega arith;
         }
 
-    pub heaps_small : (what : What) (k : ℕ) (heaps : List (Heap T)) → heaps_flaw flaw span most hs what k heaps ≡ None → Each (IsSmallHeap value) heaps × (length heaps ≤ 16)
+    pub heaps_small : (what : What) (k : ℕ) (heaps : List (Heap T)) → heaps_flaw flaw span most hs what k heaps ≡ None
+        → Each (IsSmallHeap value) heaps × (length heaps ≤ 16)
     heaps_small what k heaps e = (
-      each_of (counted_flaw flaw span most hs what) (heap_span span) (IsSmallHeap value) (λ n j h g. heap_small j h (neither (over_if (nat_le 16 n) what j) (heap_flaw flaw span most hs j h) g).1) 0 k heaps e,
-      few_all (counted_flaw flaw span most hs what) (heap_span span) 16 (λ n j h g. below 16 n (not_over _ what j (neither (over_if (nat_le 16 n) what j) (heap_flaw flaw span most hs j h) g).0)) k heaps e,
+      each_of (counted_flaw flaw span most hs what) (heap_span span) (IsSmallHeap value)
+          (λ n j h g. heap_small j h (neither (over_if (nat_le 16 n) what j) (heap_flaw flaw span most hs j h) g).1)
+          0 k heaps e,
+      few_all (counted_flaw flaw span most hs what) (heap_span span) 16
+          (λ n j h g. below 16 n (not_over _ what j (neither (over_if (nat_le 16 n) what j)
+          (heap_flaw flaw span most hs j h) g).0)) k heaps e,
     )

@@ -31,8 +31,16 @@ module _ {X : Type 0} (span : X → ℕ) where
 
 module _ {T : Type 0} (span : T → ℕ) (m : ℕ) where
   pub heap-span : (h : Heap T) → heap_span span (heap_front (Beyond m) h) ≤ heap_span span h
-  heap-span h = omega (arith, members-span-or (pure_span span) m 2 h.pure, members-span-or (spatial_span span) m 2 h.spatial)
+  heap-span h = omega (
+    arith,
+    members-span-or (pure_span span) m 2 h.pure,
+    members-span-or (spatial_span span) m 2 h.spatial,
+  )
 
   pub heaps-span : (hs : List (Heap T)) → total (heap_span span) (heaps_front (Beyond m) hs) ≤ total (heap_span span) hs
   heaps-span hs =
-      omega (arith, members-span (heap_span span) m (map (heap_front (Beyond m)) hs), all-span (heap_span span) (heap_front (Beyond m)) heap-span hs)
+      omega (
+        arith,
+        members-span (heap_span span) m (map (heap_front (Beyond m)) hs),
+        all-span (heap_span span) (heap_front (Beyond m)) heap-span hs,
+      )

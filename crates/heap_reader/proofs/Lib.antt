@@ -11,3 +11,17 @@ pub mod Members
 pub mod FirstPlaces
 pub mod FlawFronts
 pub mod FrontSpans
+pub mod DefinitionMembers
+pub mod DefinitionFitting
+pub mod DefinitionSpanLaws
+pub mod DefinitionWithinSpans
+pub mod TreesAgain
+pub mod ValuesAgain
+pub mod DefinitionFlaws
+pub mod DefinitionFrontSpans
+pub mod Programs
+pub mod LineWithinSpans
+pub mod LineSpanLaws
+mod Stable
+mod DefinitionLaw
+mod Parts

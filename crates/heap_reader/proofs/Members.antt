@@ -7,5 +7,6 @@ pub many_fit : {A : Type 0} (a : Syntax A) (xs : List A) → fits_many a xs → 
 many_fit a [] f = tt
 many_fit a (x ∷ xs) f = (f.0, many_fit a xs f.1)
 
-pub behind_fit : {A : Type 0} (c : Class (Unit {0})) (a : Syntax A) (xs : List A) → fits_many (after c a) xs → Each a.fits xs
+pub behind_fit : {A : Type 0} (c : Class (Unit {0})) (a : Syntax A) (xs : List A) → fits_many (after c a) xs
+    → Each a.fits xs
 behind_fit c a xs f = many_fit (after c a) xs f

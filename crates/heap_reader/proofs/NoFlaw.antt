@@ -1,5 +1,6 @@
 -- What no flaw says of the parts.
-use Rattle.std.proofs.Common.{◌≡◌, ℕ, zero, suc, ◌+◌, ◌<◌, ◌≤◌, Bool, true, false, List, [], ◌∷◌, length, Some, None, refl, ap, ◌∙◌, arith}
+use Rattle.std.proofs.Common.{◌≡◌, ℕ, zero, suc, ◌+◌, ◌<◌, ◌≤◌, Bool, true, false, List, [], ◌∷◌, length, Some, None}
+use Rattle.std.proofs.Common.{refl, ap, ◌∙◌, arith}
 use Rattle.std.specs.Prelude.{nat_lt, nat_le, nat_eq}
 use Rattle.std.proofs.lemmas.Bool.{ltb-false, leb-false}
 use Rattle.heap_formula.specs.Words.{Each}
@@ -34,13 +35,17 @@ positive (suc n) e = omega arith
 
 -- ---- lists
 
-pub each_of : {X : Type 0} (flaw : ℕ → ℕ → X → Found) (span : X → ℕ) (Q : X → Type 0) → ((n k : ℕ) (x : X) → flaw n k x ≡ None → Q x) → (n k : ℕ) (xs : List X) → listed_flaw flaw span n k xs ≡ None → Each Q xs
+pub each_of : {X : Type 0} (flaw : ℕ → ℕ → X → Found) (span : X → ℕ) (Q : X → Type 0)
+    → ((n k : ℕ) (x : X) → flaw n k x ≡ None → Q x) → (n k : ℕ) (xs : List X) → listed_flaw flaw span n k xs ≡ None
+    → Each Q xs
 each_of flaw span Q one n k [] e = tt
 each_of flaw span Q one n k (x ∷ xs) e =
     let both = neither (flaw n k x) (listed_flaw flaw span (suc n) (k + span x) xs) e in
     (one n k x both.0, each_of flaw span Q one (suc n) (k + span x) xs both.1)
 
-few_of : {X : Type 0} (flaw : ℕ → ℕ → X → Found) (span : X → ℕ) (most : ℕ) → ((n k : ℕ) (x : X) → flaw n k x ≡ None → n < most) → (n k : ℕ) (xs : List X) → n ≤ most → listed_flaw flaw span n k xs ≡ None → n + length xs ≤ most
+few_of : {X : Type 0} (flaw : ℕ → ℕ → X → Found) (span : X → ℕ) (most : ℕ)
+    → ((n k : ℕ) (x : X) → flaw n k x ≡ None → n < most) → (n k : ℕ) (xs : List X) → n ≤ most
+    → listed_flaw flaw span n k xs ≡ None → n + length xs ≤ most
 few_of flaw span most one n k [] h e = omega arith
 few_of flaw span most one n k (x ∷ xs) h e =
     let both = neither (flaw n k x) (listed_flaw flaw span (suc n) (k + span x) xs) e in
@@ -49,5 +54,7 @@ few_of flaw span most one n k (x ∷ xs) h e =
     omega arith
 
 -- all of them, where none stand before
-pub few_all : {X : Type 0} (flaw : ℕ → ℕ → X → Found) (span : X → ℕ) (most : ℕ) → ((n k : ℕ) (x : X) → flaw n k x ≡ None → n < most) → (k : ℕ) (xs : List X) → listed_flaw flaw span 0 k xs ≡ None → length xs ≤ most
+pub few_all : {X : Type 0} (flaw : ℕ → ℕ → X → Found) (span : X → ℕ) (most : ℕ)
+    → ((n k : ℕ) (x : X) → flaw n k x ≡ None → n < most) → (k : ℕ) (xs : List X) → listed_flaw flaw span 0 k xs ≡ None
+    → length xs ≤ most
 few_all flaw span most one k xs e = let r = few_of flaw span most one 0 k xs (omega arith) e in omega arith

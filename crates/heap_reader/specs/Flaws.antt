@@ -1,7 +1,8 @@
 -- The first flaw of a text that the grammar has: what is ill-formed or passes a limit, and at which token.
-use Rattle.std.specs.Prelude.{◌≡◌, ℕ, suc, ◌+◌, Bool, true, false, not, nat_eq, nat_le, if◌then◌else◌, List, [], ◌∷◌, length, Option, Some, None, Result, Ok, Err}
+use Rattle.std.specs.Prelude.{◌≡◌, ℕ, suc, ◌+◌, Bool, true, false, not, nat_eq, nat_le, if◌then◌else◌, List, [], ◌∷◌}
+use Rattle.std.specs.Prelude.{length, Option, Some, None, Result, Ok, Err}
 use Rattle.std.specs.Str.{bytes_eq}
-use Rattle.cyc_limits.specs.declared.TheConstants.{MOST_ARGUMENTS, MOST_DISJUNCTS, MOST_PURE}
+use Rattle.cyc_basics.specs.declared.limits.TheConstants.{MOST_ARGUMENTS, MOST_DISJUNCTS, MOST_PURE}
 use Rattle.cyc_lex.specs.declared.fault.IllFault.{IllFault}
 use Rattle.cyc_lex.specs.declared.fault.IllFault.TheVariants.{Unknown, Arity}
 use Rattle.cyc_lex.specs.declared.fault.What.{What}
@@ -59,11 +60,13 @@ module _ {T : Type 0} (flaw : ℕ → T → Found) (span : T → ℕ) where
 
   -- at most 64
   abbrev pub pure_flaw : ℕ → ℕ → PureTree T → Found
-  pure_flaw n k x = or_later (over_if (nat_le MOST_PURE n) Pure k) (or_later (flaw k x.left) (flaw (k + span x.left) x.right))
+  pure_flaw n k x = or_later (over_if (nat_le MOST_PURE n) Pure k)
+      (or_later (flaw k x.left) (flaw (k + span x.left) x.right))
 
   -- a cell of a heap that has at most so many spatial atoms
   abbrev pub cell_flaw : ℕ → ℕ → ℕ → T → List T → Found
-  cell_flaw most n k t ts = or_later (over_if (nat_le most n) SpatialAtoms k) (or_later (flaw k t) (arguments_flaw (k + span t + 1) ts))
+  cell_flaw most n k t ts = or_later (over_if (nat_le most n) SpatialAtoms k)
+      (or_later (flaw k t) (arguments_flaw (k + span t + 1) ts))
 
   -- heaps that have at most so many spatial atoms
   module _ (most : ℕ) (hs : List Heading) where
@@ -71,11 +74,13 @@ module _ {T : Type 0} (flaw : ℕ → T → Found) (span : T → ℕ) where
     abbrev pub spatial_flaw : ℕ → ℕ → Spatial T → Found
     spatial_flaw n k (Cell t ts) = cell_flaw most n k t ts
     spatial_flaw n k (Predicate name ts) =
-        or_later (use_flaw (arity_in hs name) (length ts) k) (or_later (over_if (nat_le most n) SpatialAtoms k) (arguments_flaw (k + 2) ts))
+        or_later (use_flaw (arity_in hs name) (length ts) k)
+        (or_later (over_if (nat_le most n) SpatialAtoms k) (arguments_flaw (k + 2) ts))
 
     abbrev pub heap_flaw : ℕ → Heap T → Found
     heap_flaw k h =
-        or_later (listed_flaw pure_flaw (pure_span span) 0 k h.pure) (listed_flaw spatial_flaw (spatial_span span) 0 (k + pures_span span h.pure) h.spatial)
+        or_later (listed_flaw pure_flaw (pure_span span) 0 k h.pure)
+        (listed_flaw spatial_flaw (spatial_span span) 0 (k + pures_span span h.pure) h.spatial)
 
     -- at most sixteen of what is counted
     abbrev pub counted_flaw : What → ℕ → ℕ → Heap T → Found

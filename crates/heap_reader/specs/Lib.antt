@@ -6,3 +6,13 @@ pub mod Small
 pub mod Told
 pub mod Reading
 pub mod Indexes
+pub mod DefinitionSpans
+pub mod DefinitionFlaws
+pub mod DefinitionValues
+pub mod DefinitionSmall
+pub mod Written
+pub mod LineSpans
+pub mod LineFlaws
+pub mod LineValues
+pub mod LineSmall
+pub mod Items

@@ -23,10 +23,14 @@ pub record Format (T V : Type 0) : Type 1 where
 -- the bytes have no tokens, for this reason
 abbrev pub IsLexFault : List ℕ → LexFault → Type 0
 IsLexFault bytes lexical.OutOfMemory = ⊥
-IsLexFault bytes (lexical.BadByte offset line column) = Answers (Err (lexical.BadByte offset line column)) (tokens_of bytes)
-IsLexFault bytes (lexical.BadUtf8 offset line column) = Answers (Err (lexical.BadUtf8 offset line column)) (tokens_of bytes)
-IsLexFault bytes (lexical.LongNumber offset line column) = Answers (Err (lexical.LongNumber offset line column)) (tokens_of bytes)
-IsLexFault bytes (lexical.LongName offset line column) = Answers (Err (lexical.LongName offset line column)) (tokens_of bytes)
+IsLexFault bytes (lexical.BadByte offset line column) = Answers (Err (lexical.BadByte offset line column))
+    (tokens_of bytes)
+IsLexFault bytes (lexical.BadUtf8 offset line column) = Answers (Err (lexical.BadUtf8 offset line column))
+    (tokens_of bytes)
+IsLexFault bytes (lexical.LongNumber offset line column) = Answers (Err (lexical.LongNumber offset line column))
+    (tokens_of bytes)
+IsLexFault bytes (lexical.LongName offset line column) = Answers (Err (lexical.LongName offset line column))
+    (tokens_of bytes)
 
 -- the value is read, unless memory runs out
 abbrev pub IsReadAgain : {V : Type 0} → (V → V → Type 0) → V → Result V ReadFault → Type 0
@@ -45,7 +49,8 @@ module _ {T V : Type 0} (format : Format T V) where
   -- the tokens spell a tree whose first flaw is this item, at the token of this number, line and column
   abbrev pub HasFlaw : List Placed → Item → ℕ → ℕ → ℕ → Type 0
   HasFlaw ts item token line column =
-      (tree : T) × SpellsTree ts tree × (format.flaw tree ≡ Some (record { item = item; token = token })) × StandsAt ts token line column
+      (tree : T) × SpellsTree ts tree × (format.flaw tree ≡ Some (record { item = item; token = token }))
+      × StandsAt ts token line column
 
   -- what is read of the tokens
   abbrev pub IsReadFrom : List Placed → Result V ReadFault → Type 0
@@ -56,11 +61,13 @@ module _ {T V : Type 0} (format : Format T V) where
   IsReadFrom ts (Err (faults.Lex fault)) = ⊥
   IsReadFrom ts (Err faults.OutOfMemory) = ⊥
 
-  -- the bytes spell this value, or this is the first fault of the text: of its tokens, of its grammar, or of what it says
+  -- the bytes spell this value, or this is the first fault of the text: of its tokens, of its grammar, or of what it
+  -- says
   abbrev pub IsRead : List ℕ → Result V ReadFault → Type 0
   IsRead bytes (Err (faults.Lex fault)) = IsLexFault bytes fault
   IsRead bytes (Ok v) = (ts : List Placed) × (tokens_of bytes ≡ Ok ts) × IsReadFrom ts (Ok v)
-  IsRead bytes (Err (faults.Syntax token line column)) = (ts : List Placed) × (tokens_of bytes ≡ Ok ts) × IsReadFrom ts (Err (faults.Syntax token line column))
+  IsRead bytes (Err (faults.Syntax token line column)) = (ts : List Placed) × (tokens_of bytes ≡ Ok ts)
+      × IsReadFrom ts (Err (faults.Syntax token line column))
   IsRead bytes (Err (faults.IllFormed fault token line column)) =
       (ts : List Placed) × (tokens_of bytes ≡ Ok ts) × IsReadFrom ts (Err (faults.IllFormed fault token line column))
   IsRead bytes (Err (faults.Limit what token line column)) =
@@ -73,7 +80,8 @@ module _ {T V : Type 0} (format : Format T V) where
   Reads bytes (Ok v) = IsRead bytes (Ok v)
   Reads bytes (Err (faults.Lex fault)) = IsRead bytes (Err (faults.Lex fault))
   Reads bytes (Err (faults.Syntax token line column)) = IsRead bytes (Err (faults.Syntax token line column))
-  Reads bytes (Err (faults.IllFormed fault token line column)) = IsRead bytes (Err (faults.IllFormed fault token line column))
+  Reads bytes (Err (faults.IllFormed fault token line column)) = IsRead bytes
+      (Err (faults.IllFormed fault token line column))
   Reads bytes (Err (faults.Limit what token line column)) = IsRead bytes (Err (faults.Limit what token line column))
 
   abbrev pub ReadsFrom : List Placed → Result V ReadFault → Type 0
@@ -81,5 +89,6 @@ module _ {T V : Type 0} (format : Format T V) where
   ReadsFrom ts (Ok v) = IsReadFrom ts (Ok v)
   ReadsFrom ts (Err (faults.Lex fault)) = ⊥
   ReadsFrom ts (Err (faults.Syntax token line column)) = IsReadFrom ts (Err (faults.Syntax token line column))
-  ReadsFrom ts (Err (faults.IllFormed fault token line column)) = IsReadFrom ts (Err (faults.IllFormed fault token line column))
+  ReadsFrom ts (Err (faults.IllFormed fault token line column)) = IsReadFrom ts
+      (Err (faults.IllFormed fault token line column))
   ReadsFrom ts (Err (faults.Limit what token line column)) = IsReadFrom ts (Err (faults.Limit what token line column))

@@ -1,6 +1,6 @@
 -- Parts of trees that fit the values' types: numbers of 16 bits, lists within the limits; over the value of a term.
 use Rattle.std.specs.Prelude.{ℕ, ◌<◌, ◌≤◌, List, length, Bool, nat_le}
-use Rattle.cyc_limits.specs.declared.TheConstants.{MOST_ARGUMENTS, MOST_PURE, MOST_SPATIAL}
+use Rattle.cyc_basics.specs.declared.limits.TheConstants.{MOST_ARGUMENTS, MOST_PURE, MOST_SPATIAL}
 use Rattle.heap_formula.specs.declared.terms.Term.{Term}
 use Rattle.heap_formula.specs.declared.terms.Term.TheVariants.{Nil, Univ, Exist}
 use Rattle.heap_formula.specs.Symbolic.{SymbolicHeap}

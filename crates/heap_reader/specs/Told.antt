@@ -15,8 +15,10 @@ item_fault (Over what) token line column = faults.Limit what token line column
 
 -- the fault tells the flaw and where its token stands
 abbrev pub IsFlawTold : List Placed → Flaw → ReadFault → Type 0
-IsFlawTold ts flaw (faults.IllFormed fault token line column) = (flaw ≡ record { item = Ill fault; token = token }) × StandsAt ts token line column
-IsFlawTold ts flaw (faults.Limit what token line column) = (flaw ≡ record { item = Over what; token = token }) × StandsAt ts token line column
+IsFlawTold ts flaw (faults.IllFormed fault token line column) = (flaw ≡ record { item = Ill fault; token = token })
+    × StandsAt ts token line column
+IsFlawTold ts flaw (faults.Limit what token line column) = (flaw ≡ record { item = Over what; token = token })
+    × StandsAt ts token line column
 IsFlawTold ts flaw (faults.Syntax token line column) = ⊥
 IsFlawTold ts flaw (faults.Lex fault) = ⊥
 IsFlawTold ts flaw faults.OutOfMemory = ⊥

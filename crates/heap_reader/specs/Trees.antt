@@ -1,4 +1,5 @@
--- What a contract sees of heaps as trees, where their terms hold nothing borrowed, and of the predicates that are known.
+-- What a contract sees of heaps as trees, where their terms hold nothing borrowed, and of the predicates that are
+-- known.
 use Rattle.std.specs.Prelude.{ℕ, List, map}
 use Rattle.heap_formula.specs.Definitions.{Definition}
 use Rattle.heap_syntax.specs.declared.tree.SpatialTree.{SpatialTree}

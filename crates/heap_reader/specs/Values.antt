@@ -29,11 +29,16 @@ spatial_value value hs (Cell t ts) = atoms.Cell (value t) (map value ts)
 spatial_value value hs (Predicate name ts) = atoms.Pred (place_of hs name) (map value ts)
 
 abbrev pub heap_value : {T : Type 0} → (T → Term) → List Heading → Heap T → SymbolicHeap
-heap_value value hs h = record { pure = map (pure_value value) h.pure; spatial = map (spatial_value value hs) h.spatial }
+heap_value value hs h = record {
+  pure = map (pure_value value) h.pure;
+  spatial = map (spatial_value value hs) h.spatial;
+}
 
 -- the definition of a predicate, from its name, the number of its parameters and its cases
 abbrev pub definition_value : {T : Type 0} → (T → Term) → List Heading → List ℕ → ℕ → List (Heap T) → Definition
-definition_value value hs name arity cases = record { name = name; arity = arity; cases = map (heap_value value hs) cases }
+definition_value value hs name arity cases = record
+    { name = name; arity = arity; cases = map (heap_value value hs) cases }
 
 abbrev pub entailment_value : {T : Type 0} → (T → Term) → List Heading → Heap T → List (Heap T) → Judgement
-entailment_value value hs antecedent disjuncts = Entail (heap_value value hs antecedent) (map (heap_value value hs) disjuncts)
+entailment_value value hs antecedent disjuncts = Entail (heap_value value hs antecedent)
+    (map (heap_value value hs) disjuncts)

@@ -4,13 +4,14 @@ ghost use Rattle.std.specs.Prelude.{◌+◌, ◌<◌, ◌^◌};
 ghost use Rattle.heap_syntax.specs.Trees.{Cell, Predicate};
 ghost use Rattle.heap_reader.specs.Trees.{spatial_of};
 ghost use Rattle.heap_reader.specs.Spans.{total, total_or, pure_span, pures_span, spatial_span};
-ghost use Rattle.heap_reader.specs.Flaws.{listed_flaw, argument_flaw, arguments_flaw, pure_flaw, arity_in, use_flaw, cell_flaw, spatial_flaw, IsName, IsWalk};
+ghost use Rattle.heap_reader.specs.Flaws.{listed_flaw, argument_flaw, arguments_flaw, pure_flaw, arity_in, use_flaw};
+ghost use Rattle.heap_reader.specs.Flaws.{cell_flaw, spatial_flaw, IsName, IsWalk};
 
 use crate::flaw::{Flaw, ill, over};
 use crate::form::TermReader;
 use crate::head::Heads;
+use cyc_basics::limits::{MOST_ARGUMENTS, MOST_PURE};
 use cyc_lex::{IllFault, What};
-use cyc_limits::{MOST_ARGUMENTS, MOST_PURE};
 use heap_syntax::{PureTree, SpatialTree};
 
 fn argument<F: TermReader>(form: &F, n: usize, at: usize, term: F::Term) -> Result<usize, Flaw>

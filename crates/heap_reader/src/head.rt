@@ -5,7 +5,7 @@ ghost use Rattle.heap_reader.specs.Flaws.{arity_in};
 ghost use Rattle.heap_reader.specs.Values.{place_of};
 ghost use Rattle.heap_reader.specs.Indexes.{IsIndex};
 
-use cyc_memory::OutOfMemory;
+use cyc_basics::memory::OutOfMemory;
 use heap_formula::Def;
 use indexmap::IndexMap;
 use std::alloc::Global;

@@ -8,8 +8,8 @@ use crate::atom_walk::{pure_part, spatial_atom};
 use crate::flaw::{Flaw, over};
 use crate::form::TermReader;
 use crate::head::Heads;
+use cyc_basics::limits::MOST_DISJUNCTS;
 use cyc_lex::What;
-use cyc_limits::MOST_DISJUNCTS;
 use heap_syntax::{HeapTree, SpatialTree};
 
 fn spatial_atoms<F: TermReader>(

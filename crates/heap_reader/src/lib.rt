@@ -3,10 +3,13 @@
 #![tactic(auto)]
 
 mod atom_walk;
+pub mod definitions;
 mod flaw;
 mod form;
 mod head;
 mod heap_walk;
+pub mod items;
+pub mod lines;
 mod told;
 mod values;
 

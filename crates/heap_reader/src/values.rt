@@ -3,12 +3,14 @@ ghost use Rattle.std.specs.Prelude.{◌≡◌, ◌<◌, ◌≤◌, length, map, 
 ghost use Rattle.heap_formula.specs.Words.{Each};
 ghost use Rattle.heap_reader.specs.Trees.{spatial_of, heap_of};
 ghost use Rattle.heap_reader.specs.Small.{IsSmall, IsSmallPure, IsSmallSpatial, IsSmallHeap};
-ghost use Rattle.heap_reader.specs.Values.{pure_value, spatial_value, heap_value as value_of_heap, definition_value as value_of_definition, entailment_value as value_of_entailment};
+ghost use Rattle.heap_reader.specs.Values.{pure_value, spatial_value, heap_value as value_of_heap};
+ghost use Rattle.heap_reader.specs.Values.{definition_value as value_of_definition};
+ghost use Rattle.heap_reader.specs.Values.{entailment_value as value_of_entailment};
 
 use crate::form::TermReader;
 use crate::head::Heads;
-use cyc_limits::{MOST_ARGUMENTS, MOST_DISJUNCTS, MOST_PREDICATES};
-use cyc_memory::OutOfMemory;
+use cyc_basics::limits::{MOST_ARGUMENTS, MOST_DISJUNCTS, MOST_PREDICATES};
+use cyc_basics::memory::OutOfMemory;
 use heap_formula::{Args, Cases, Def, DefName, Disjuncts, Heap, Judgement, Pure, Spatial, Term};
 use heap_syntax::{HeapTree, PureTree, SpatialTree};
 use std::alloc::Global;

@@ -6,3 +6,11 @@ pub mod HeapLaws
 pub mod WordTexts
 pub mod HeapEnds
 pub mod NumberLaws
+pub mod DefinitionLaws
+pub mod DefinitionEnds
+pub mod SeenTrees
+pub mod WrittenTerms
+pub mod DefinitionFronts
+pub mod DefinitionFrontFits
+pub mod CommandLaws
+mod PremisesTexts

@@ -3,9 +3,11 @@ use Rattle.std.proofs.Common.{◌≡◌, ℕ, false, List, [], ◌∷◌, ◌++�
 use Rattle.cyc_lex.specs.Word.{Word}
 use Rattle.cyc_grammar.specs.Syntax.{one, seq, after, before, is_one}
 use Rattle.cyc_grammar.specs.Classes.{number}
-use Rattle.cyc_grammar.proofs.Laws.{Lawful, one-law, seq-law, shaped-law, alt-law, many-law, after-law, before-law, Stops-never}
+use Rattle.cyc_grammar.proofs.Laws.{Lawful, one-law, seq-law, shaped-law, alt-law, many-law, after-law, before-law}
+use Rattle.cyc_grammar.proofs.Laws.{Stops-never}
 use Rattle.cyc_grammar.proofs.ClassLaws.{symbol-law, keyword-law, number-law}
-use Rattle.cyc_grammar.proofs.Ends.{Inner, one-inner, seq-inner, after-inner, before-inner, alt-inner, many-inner, shaped-inner, number-inner}
+use Rattle.cyc_grammar.proofs.Ends.{Inner, one-inner, seq-inner, after-inner, before-inner, alt-inner, many-inner}
+use Rattle.cyc_grammar.proofs.Ends.{shaped-inner, number-inner}
 use Rattle.heap_syntax.specs.Words.{to_word, semicolon, opening_bracket, closing_bracket}
 use Rattle.heap_syntax.specs.Grammar.{Any}
 use Rattle.heap_syntax.specs.Numbers.{numbers, bracketed, two_numbers, to_premises, from_premises, premises}
@@ -15,7 +17,8 @@ use Rattle.heap_syntax.proofs.WordTexts.{to-word, syms}
 
 numbers-law : Lawful numbers
 unfolding numbers
-numbers-law = many-law (is_one number) (one number) (one-law number number-law) (record { starts = λ n f. rw (number-law.value n f) refl; apart = λ n d f h. refl })
+numbers-law = many-law (is_one number) (one number) (one-law number number-law)
+    (record { starts = λ n f. rw (number-law.value n f) refl; apart = λ n d f h. refl })
 
 numbers-end : (d : Word) → is_one number d ≡ false → (ns : List ℕ) → numbers.fits ns → numbers.more ns d ≡ false
 unfolding numbers
@@ -29,7 +32,9 @@ numbers-inner = many-inner (is_one number) (one number) number-inner
 
 pub bracketed-law : Lawful bracketed
 unfolding bracketed
-bracketed-law = after-law opening_bracket _ (symbol-law _) (before-law numbers closing_bracket (symbol-law _) numbers-law (λ ns f. numbers-end (closing_bracket.word tt) refl ns f))
+bracketed-law = after-law opening_bracket _ (symbol-law _)
+    (before-law numbers closing_bracket (symbol-law _) numbers-law
+    (λ ns f. numbers-end (closing_bracket.word tt) refl ns f))
 
 pub bracketed-closed : (ns : List ℕ) (d : Word) → bracketed.more ns d ≡ false
 unfolding bracketed
@@ -37,11 +42,13 @@ bracketed-closed ns d = refl
 
 pub bracketed-inner : Inner bracketed
 unfolding bracketed
-bracketed-inner = after-inner opening_bracket _ syms.opening_bracket_word (before-inner numbers closing_bracket syms.closing_bracket_word numbers-inner)
+bracketed-inner = after-inner opening_bracket _ syms.opening_bracket_word
+    (before-inner numbers closing_bracket syms.closing_bracket_word numbers-inner)
 
 pub two_numbers-law : Lawful two_numbers
 unfolding two_numbers
-two_numbers-law = seq-law (one number) (one number) (one-law number number-law) (one-law number number-law) (λ x y r fx fy h. Stops-never ((one number).words y ++ r))
+two_numbers-law = seq-law (one number) (one number) (one-law number number-law) (one-law number number-law)
+    (λ x y r fx fy h. Stops-never ((one number).words y ++ r))
 
 pub two_numbers-inner : Inner two_numbers
 unfolding two_numbers
@@ -53,9 +60,12 @@ pub premises-law : Lawful premises
 unfolding premises
 premises-law =
     shaped-law {A = (ℕ × List ℕ) ⊎ Unit {0}} to_premises from_premises Any _ (λ x f. (there x, tt)) (λ ns h. here ns)
-    (alt-law (is_one to_word) (after to_word (seq (one number) (before numbers semicolon))) (one semicolon) (λ x f. refl) (λ u f. refl)
+    (alt-law (is_one to_word) (after to_word (seq (one number) (before numbers semicolon))) (one semicolon)
+    (λ x f. refl) (λ u f. refl)
     (after-law to_word (seq (one number) (before numbers semicolon)) (keyword-law _)
-    (seq-law (one number) (before numbers semicolon) (one-law number number-law) (before-law numbers semicolon (symbol-law _) numbers-law (λ ns f. numbers-end (semicolon.word tt) refl ns f)) (λ n ns r fn fns h. Stops-never ((before numbers semicolon).words ns ++ r))))
+    (seq-law (one number) (before numbers semicolon) (one-law number number-law)
+    (before-law numbers semicolon (symbol-law _) numbers-law (λ ns f. numbers-end (semicolon.word tt) refl ns f))
+    (λ n ns r fn fns h. Stops-never ((before numbers semicolon).words ns ++ r))))
     (one-law semicolon (symbol-law _)))
   where
     there : (x : (ℕ × List ℕ) ⊎ Unit {0}) → from_premises (to_premises x) ≡ x
@@ -73,4 +83,7 @@ premises-closed (n ∷ ns) d = refl
 
 pub premises-inner : Inner premises
 unfolding premises
-premises-inner = shaped-inner {A = (ℕ × List ℕ) ⊎ Unit {0}} to_premises from_premises Any _ (alt-inner (is_one to_word) _ _ (after-inner to_word _ to-word (seq-inner (one number) _ number-inner (before-inner numbers semicolon syms.semicolon_word numbers-inner))) (one-inner semicolon (λ u f. syms.semicolon_word)))
+premises-inner = shaped-inner {A = (ℕ × List ℕ) ⊎ Unit {0}} to_premises from_premises Any _
+    (alt-inner (is_one to_word) _ _ (after-inner to_word _ to-word
+    (seq-inner (one number) _ number-inner (before-inner numbers semicolon syms.semicolon_word numbers-inner)))
+    (one-inner semicolon (λ u f. syms.semicolon_word)))

@@ -6,7 +6,8 @@ use Rattle.cyc_lex.proofs.Letters.{letters-name}
 use Rattle.cyc_grammar.specs.Classes.{find_text}
 use Rattle.cyc_grammar.proofs.Laws.{ClassLaw}
 use Rattle.cyc_grammar.proofs.ClassLaws.{numeral_of-law}
-use Rattle.heap_syntax.specs.Words.{nil, true_word, emp, pred_word, or_word, last_word, cyclist_word, node_word, from_word, given_word, by_word, to_word, goal_word}
+use Rattle.heap_syntax.specs.Words.{nil, true_word, emp, pred_word, or_word, last_word, cyclist_word, node_word}
+use Rattle.heap_syntax.specs.Words.{from_word, given_word, by_word, to_word, goal_word}
 use Rattle.heap_syntax.specs.declared.version.Version.{Version}
 use Rattle.heap_syntax.specs.declared.version.Version.TheVariants.{One, Two}
 use Rattle.heap_syntax.specs.Versions.{version_text, versions, version, first_text, first_version}

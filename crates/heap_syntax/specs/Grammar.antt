@@ -1,12 +1,14 @@
 -- The grammar of symbolic heaps over terms of any form.
 use Rattle.std.specs.Prelude.{ℕ, ◌<◌, Bool, true, false, List, [], ◌∷◌, ◌⊎◌, length}
 use Rattle.std.proofs.Common.{inl, inr}
-use Rattle.cyc_grammar.specs.Syntax.{Syntax, Class, one, seq, alt, many, shaped, after, before, is_one, uncons, list1, join_empty, split_empty, or_empty}
+use Rattle.cyc_grammar.specs.Syntax.{Syntax, Class, one, seq, alt, many, shaped, after, before, is_one, uncons, list1}
+use Rattle.cyc_grammar.specs.Syntax.{join_empty, split_empty, or_empty}
 use Rattle.heap_syntax.specs.declared.keep.Keep.{Keep}
 use Rattle.heap_syntax.specs.declared.tree.PureTree.{PureTree}
 use Rattle.heap_syntax.specs.Keeping.{others_kept}
 use Rattle.heap_syntax.specs.Trees.{Spatial, Cell, Predicate, Heap}
-use Rattle.heap_syntax.specs.Words.{true_word, emp, equal, unequal, comma, colon, star, arrow, opening, closing, free_name}
+use Rattle.heap_syntax.specs.Words.{true_word, emp, equal, unequal, comma, colon, star, arrow, opening, closing}
+use Rattle.heap_syntax.specs.Words.{free_name}
 
 -- every value has a text
 abbrev pub Any : {A : Type 0} → A → Type 0
@@ -69,7 +71,8 @@ unfoldable pub pures1 : {T : Type 0} → Terms T → Syntax (List (PureTree T))
 pures1 t = listed (some_pure t) comma colon (pure t.syntax)
 
 abbrev pub pures_over : {T : Type 0} → Syntax (List (PureTree T)) → Syntax (List (PureTree T))
-pures_over {T = T} some = shaped {A = Unit {0} ⊎ List (PureTree T)} join_empty split_empty Any (alt (is_one true_word) (after true_word (one colon)) some)
+pures_over {T = T} some = shaped {A = Unit {0} ⊎ List (PureTree T)} join_empty split_empty Any
+    (alt (is_one true_word) (after true_word (one colon)) some)
 
 unfoldable pub pures : {T : Type 0} → Terms T → Syntax (List (PureTree T))
 pures t = pures_over (pures1 t)
@@ -102,7 +105,8 @@ cell t = seq t.syntax (after arrow (after opening (fields t)))
 
 -- the spatial atoms where no term begins with a name
 unfoldable pub spatial : {T : Type 0} → Terms T → Syntax (Spatial T)
-spatial {T = T} t = shaped {A = (List ℕ × List T) ⊎ (T × List T)} to_spatial from_spatial Any (alt (is_one free_name) (predicate t) (cell t))
+spatial {T = T} t = shaped {A = (List ℕ × List T) ⊎ (T × List T)} to_spatial from_spatial Any
+    (alt (is_one free_name) (predicate t) (cell t))
 
 -- ---- spats = "emp" | spat { "*" spat }, with spat as the format has it
 
@@ -127,7 +131,8 @@ abbrev pub from_heap : {T : Type 0} → Heap T → List (PureTree T) × List (Sp
 from_heap h = (h.pure, h.spatial)
 
 abbrev pub heap_over : {T : Type 0} → Syntax (List (PureTree T)) → Syntax (List (Spatial T)) → Syntax (Heap T)
-heap_over {T = T} pures spatials = shaped {A = List (PureTree T) × List (Spatial T)} to_heap from_heap Any (seq pures spatials)
+heap_over {T = T} pures spatials = shaped {A = List (PureTree T) × List (Spatial T)} to_heap from_heap Any
+    (seq pures spatials)
 
 unfoldable pub heap : {T : Type 0} → Terms T → Syntax (Spatial T) → Syntax (Heap T)
 heap t atom = heap_over (pures t) (spatials t atom)
@@ -143,5 +148,6 @@ some_heap = record { pure = []; spatial = [] }
 abbrev pub heaps : {T : Type 0} → Class (Unit {0}) → Class (Unit {0}) → Syntax (Heap T) → Syntax (List (Heap T))
 heaps between behind h = listed some_heap between behind h
 
-abbrev pub kept_heaps : {T : Type 0} → Keep → Class (Unit {0}) → Class (Unit {0}) → Syntax (Heap T) → Syntax (List (Heap T))
+abbrev pub kept_heaps : {T : Type 0} → Keep → Class (Unit {0}) → Class (Unit {0}) → Syntax (Heap T)
+    → Syntax (List (Heap T))
 kept_heaps k between behind h = kept_listed k some_heap between behind h

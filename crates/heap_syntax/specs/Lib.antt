@@ -5,3 +5,9 @@ pub mod Keeping
 pub mod Grammar
 pub mod Numbers
 pub mod Members
+pub mod DefinitionTrees
+pub mod DefinitionGrammar
+pub mod Fits
+pub mod DefinitionKeeping
+pub mod LineTrees
+pub mod LineGrammar

@@ -10,6 +10,8 @@ use Rattle.heap_syntax.specs.Keeping.{others_kept}
 use Rattle.heap_syntax.specs.Grammar.{more_listed}
 
 -- the first member, and what is kept of the others that are read of the words before, with a word between neighbours
-abbrev pub GivesMembers : {X Y : Type 0} → Keep → (X → Y) → X → Class (Unit {0}) → Syntax Y → List Word → Result (Vec X) Refusal → List Word → Type 0
+abbrev pub GivesMembers : {X Y : Type 0} → Keep → (X → Y) → X → Class (Unit {0}) → Syntax Y → List Word
+    → Result (Vec X) Refusal → List Word → Type 0
 GivesMembers k seen first between a words result behind =
-    Gives (λ xs. (map seen xs.items, behind)) result (with_front (seen first ∷ []) ((others_kept k (more_listed between a)).read words))
+    Gives (λ xs. (map seen xs.items, behind)) result
+    (with_front (seen first ∷ []) ((others_kept k (more_listed between a)).read words))

@@ -27,4 +27,5 @@ from_premises [] = inr tt
 from_premises (n ∷ ns) = inl (n, ns)
 
 unfoldable pub premises : Syntax (List ℕ)
-premises = shaped {A = (ℕ × List ℕ) ⊎ Unit {0}} to_premises from_premises Any (alt (is_one to_word) (after to_word (seq (one number) (before numbers semicolon))) (one semicolon))
+premises = shaped {A = (ℕ × List ℕ) ⊎ Unit {0}} to_premises from_premises Any
+    (alt (is_one to_word) (after to_word (seq (one number) (before numbers semicolon))) (one semicolon))

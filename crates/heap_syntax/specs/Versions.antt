@@ -1,6 +1,6 @@
 -- The versions of the formats.
 use Rattle.std.specs.Prelude.{ℕ, List, [], ◌∷◌, codes}
-use Rattle.cyc_limits.specs.declared.TheConstants.{MOST_SPATIAL}
+use Rattle.cyc_basics.specs.declared.limits.TheConstants.{MOST_SPATIAL}
 use Rattle.cyc_grammar.specs.Syntax.{Class}
 use Rattle.cyc_grammar.specs.Classes.{numeral_of}
 use Rattle.heap_syntax.specs.declared.version.Version.{Version}

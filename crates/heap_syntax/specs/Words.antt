@@ -103,7 +103,9 @@ prime = symbol (codes "'")
 
 -- the words that are no names
 abbrev pub reserved : List (List ℕ)
-reserved = codes "true" ∷ codes "emp" ∷ codes "nil" ∷ codes "pred" ∷ codes "line" ∷ codes "node" ∷ codes "by" ∷ codes "to" ∷ codes "end" ∷ codes "from" ∷ codes "given" ∷ codes "or" ∷ codes "goal" ∷ codes "if" ∷ codes "goto" ∷ codes "new" ∷ codes "free" ∷ codes "stop" ∷ []
+reserved = codes "true" ∷ codes "emp" ∷ codes "nil" ∷ codes "pred" ∷ codes "line" ∷ codes "node" ∷ codes "by"
+    ∷ codes "to" ∷ codes "end" ∷ codes "from" ∷ codes "given" ∷ codes "or" ∷ codes "goal" ∷ codes "if" ∷ codes "goto"
+    ∷ codes "new" ∷ codes "free" ∷ codes "stop" ∷ []
 
 abbrev pub free_name : Class (List ℕ)
 free_name = name reserved

@@ -8,9 +8,9 @@ ghost use Rattle.heap_syntax.specs.Trees.{Spatial, spatial_of};
 ghost use Rattle.heap_syntax.specs.Grammar.{Terms};
 
 use crate::tree::SpatialTree;
+use cyc_basics::memory::OutOfMemory;
 use cyc_grammar::{Cursor, Refusal};
 use cyc_lex::WordWriter;
-use cyc_memory::OutOfMemory;
 use std::alloc::Global;
 
 /// The terms of a format, how they are read, and the spatial atoms over them.

@@ -6,8 +6,8 @@ ghost use Rattle.heap_syntax.specs.Keeping.{has_room, with_member};
 
 use cyc_grammar::Refusal;
 
-/// What is kept of each list of pure atoms, of spatial atoms and of heaps: all members, or so many and one more, by which a
-/// longer list is told.
+/// What is kept of each list of pure atoms, of spatial atoms and of heaps: all members, or so many and one more, by
+/// which a longer list is told.
 #[derive(Clone, Copy)]
 pub enum Keep {
     All,

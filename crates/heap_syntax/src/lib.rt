@@ -1,8 +1,10 @@
 //! Symbolic heaps as trees over terms of any form: their grammar, and reading them from tokens.
 #![tactic(auto)]
 
+pub mod definitions;
 mod form;
 mod keep;
+pub mod lines;
 mod mark;
 mod number_list;
 mod read_atoms;
@@ -10,6 +12,7 @@ mod read_heaps;
 mod tree;
 mod version;
 mod word;
+pub mod writing;
 
 pub use form::{AtomForm, TermForm, WrittenForm};
 pub use keep::Keep;

@@ -6,9 +6,9 @@ ghost use Rattle.cyc_grammar.specs.Giving.{Gives};
 ghost use Rattle.cyc_lex.specs.Writing.{write};
 ghost use Rattle.heap_syntax.specs.Words.{marked};
 
+use cyc_basics::memory::OutOfMemory;
 use cyc_grammar::{Cursor, Refusal};
 use cyc_lex::WordWriter;
-use cyc_memory::OutOfMemory;
 
 /// One fixed word, a symbol or a keyword.
 #[derive(Clone, Copy)]

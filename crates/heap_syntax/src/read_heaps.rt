@@ -116,7 +116,8 @@ fn more_heaps<'a, F: AtomForm<'a>>(
     Ok(items)
 }
 
-/// Reads one heap or more, with a word between neighbours and one after the last; so much is kept of them and of their lists.
+/// Reads one heap or more, with a word between neighbours and one after the last; so much is kept of them and of their
+/// lists.
 #[tactic(auto, unfolding(crate::specs::Grammar::kept_listed))]
 pub fn kept_heaps<'a, F: AtomForm<'a>>(
     alloc: Global,

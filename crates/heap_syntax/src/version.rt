@@ -8,10 +8,10 @@ ghost use Rattle.cyc_grammar.specs.Giving.{Gives};
 ghost use Rattle.heap_syntax.specs.Versions.{version_text, versions, most_spatial as most_of};
 ghost use Rattle.heap_syntax.specs.Versions as formats;
 
+use cyc_basics::limits::MOST_SPATIAL;
+use cyc_basics::memory::OutOfMemory;
 use cyc_grammar::{Cursor, Refusal};
 use cyc_lex::WordWriter;
-use cyc_limits::MOST_SPATIAL;
-use cyc_memory::OutOfMemory;
 
 /// A version of the formats of proof files and of problem files, which the first statement of a file names.
 #[derive(Clone, Copy)]

@@ -1,7 +1,7 @@
 //! Small graphs, worked by hand.
 use crate::graphs::{Nodes, graph_of};
 use buchi_inclusion::{Inclusion, included};
-use cyc_memory::OutOfMemory;
+use cyc_basics::memory::OutOfMemory;
 use std::alloc::Global;
 use std::test::Fail;
 use trace_pairs::{TraceGraph, is_graph, is_lasso, lasso_progresses};
@@ -28,8 +28,8 @@ fn answer_of(alloc: Global, nodes: Nodes, limit: u32) -> Result<&'static str, Ou
     answer_on(alloc, &graph, limit)
 }
 
-/// The nodes of the ring's proof for two predicates: an Unfold, whose first case takes four nodes and whose second gives
-/// the predicate's atom the place after a cell, which a Frame takes away; twice, and then the link to node 0.
+/// The nodes of the ring's proof for two predicates: an Unfold, whose first case takes four nodes and whose second
+/// gives the predicate's atom the place after a cell, which a Frame takes away; twice, and then the link to node 0.
 const RING_OF_TWO: Nodes = &[
     (&[0], &[(1, &[]), (5, &[(0, 1, true)])]),
     (&[], &[(2, &[])]),

@@ -1,8 +1,8 @@
 //! A search over words of two letters. The links are tried before the first letter alone.
 ghost use Rattle.std.specs.Prelude.{ℕ, List, [], ◌∷◌, ◌≡◌, ◌&&◌, length, nat_eq, nat_le, nat_lt, if◌then◌else◌};
 
-use cyc_memory::OutOfMemory;
-use derivation_search::{Moves, Offers, Stop, Tried, search_depth};
+use cyc_basics::memory::OutOfMemory;
+use derivations::search::{Moves, Offers, Stop, Tried, search_depth};
 use std::alloc::Global;
 use std::collections::VecDeque;
 use std::test::Fail;
@@ -113,8 +113,8 @@ fn searched(
     Ok((stop, word.made))
 }
 
-/// Whether the link is admitted, the longest word without too many states, the depth, the count at which the search stops,
-/// how it ends, and the word that is left.
+/// Whether the link is admitted, the longest word without too many states, the depth, the count at which the search
+/// stops, how it ends, and the word that is left.
 type Row = (bool, usize, u32, u32, Option<Stop>, &'static [Letter]);
 
 const A: Letter = Letter::A;
@@ -127,8 +127,8 @@ const MANY: Option<Stop> = Some(Stop::TooManyDerivations);
 
 const STATES: Option<Stop> = Some(Stop::TooManyStates);
 
-// Where the link is refused, depth 1 counts the empty word, the link, a and b, and depth 2 the empty word, the link, a and
-// aa, which is complete. Where it is admitted, no rule is followed at the empty word.
+// Where the link is refused, depth 1 counts the empty word, the link, a and b, and depth 2 the empty word, the link, a
+// and aa, which is complete. Where it is admitted, no rule is followed at the empty word.
 static ROWS: &[Row] = &[
     (false, 2, 0, 3, None, &[]),
     (false, 2, 1, 5, None, &[]),

@@ -2,8 +2,8 @@
 ghost use Rattle.std.specs.Prelude.{◌≡◌, IfOk};
 
 use crate::given::{HeapRow, Shape, atom, heap};
-use fold_offers::folds;
 use heap_formula::{Cases, Def, DefName, Pure, Rule, Term};
+use search_moves::folds::folds;
 use std::alloc::Global;
 use std::test::Fail;
 

@@ -4,7 +4,7 @@ ghost use Rattle.heap_formula.specs.Closedness.{IsUniversal};
 ghost use Rattle.heap_formula.specs.Words.{Each};
 ghost use Rattle.goto_lang.specs.Lines.{IsUniversalCommand, commands_of};
 
-use cyc_memory::OutOfMemory;
+use cyc_basics::memory::OutOfMemory;
 use goto_lang::{Cells, Config, Program, Ran, Stack, Stepped, run_lowest, step};
 use heap_formula::{Command, Term};
 use std::alloc::Global;

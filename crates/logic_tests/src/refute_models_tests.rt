@@ -1,6 +1,6 @@
 // The models that the free search finds come with derivations.
 use crate::given::{HeapRow, Shape, defined, heap, heaps};
-use case_derivations::{CaseStep, is_derivation, refutes_by_derivation};
+use general_models::derivations::{CaseStep, is_derivation, refutes_by_derivation};
 use goto_lang::{Cells, Stack};
 use heap_formula::{Heap, Pure, Term};
 use pred_defs::Defs;

@@ -46,7 +46,8 @@ const TREE: &[HeapRow] = &[
     ),
 ];
 
-/// A predicate's arity and its cases, the greatest number of base pairs and size of the states, and how many base pairs there are.
+/// A predicate's arity and its cases, the greatest number of base pairs and size of the states, and how many base pairs
+/// there are.
 struct Row(u32, &'static [HeapRow], u32, u32, Result<usize, PairFault>);
 
 static ROWS: &[Row] = &[

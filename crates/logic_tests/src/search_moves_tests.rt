@@ -5,7 +5,7 @@ ghost use Rattle.search_moves.specs.Limits.{IsSmall};
 
 use crate::given::{HeapRow, Shape, atom, heap};
 use bumpalo::Bump;
-use cyc_memory::OutOfMemory;
+use cyc_basics::memory::OutOfMemory;
 use goto_lang::{Program, ProgramFault};
 use heap_formula::{
     Command, Disjuncts, Heap, Judgement, Link, Pairs, Positions, Pure, Reason, Rule, Side, Term,

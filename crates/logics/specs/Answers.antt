@@ -6,7 +6,8 @@ use Rattle.logics.specs.declared.premises.Subgoal.{Subgoal}
 use Rattle.logics.specs.declared.logic.Refused.{Refused}
 use Rattle.logics.specs.declared.logic.Refused.TheVariants.{Fault, OutOfMemory}
 
-abbrev pub IsPremises : {J F : Type 0} → Result (Vec (Subgoal J) Global) (Refused F) → Result (List (Subgoal J)) F → Type 0
+abbrev pub IsPremises : {J F : Type 0} → Result (Vec (Subgoal J) Global) (Refused F) → Result (List (Subgoal J)) F
+    → Type 0
 IsPremises (Ok v) answer = answer ≡ Ok v.items
 IsPremises (Err (Fault f)) answer = answer ≡ Err f
 IsPremises (Err OutOfMemory) answer = Unit {0}

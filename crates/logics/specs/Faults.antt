@@ -1,5 +1,6 @@
 -- The first fault of a node.
-use Rattle.std.specs.Prelude.{ℕ, suc, ◌≡◌, ◌<◌, List, [], ◌∷◌, length, Bool, true, false, nat_eq, nat_lt, Option, Some, None, Result, Ok, Err, slice_get}
+use Rattle.std.specs.Prelude.{ℕ, suc, ◌≡◌, ◌<◌, List, [], ◌∷◌, length, Bool, true, false, nat_eq, nat_lt, Option, Some}
+use Rattle.std.specs.Prelude.{None, Result, Ok, Err, slice_get}
 use Rattle.trace_pairs.specs.Graph.{Pair}
 use Rattle.logics.specs.declared.premises.Subgoal.{Subgoal}
 use Rattle.logics.specs.declared.node.ProofNode.{ProofNode}
@@ -20,21 +21,26 @@ abbrev pub differs : {J R F : Type 0} → LogicValue J R F → ℕ → Subgoal J
 differs c i premise None = Some c.faults.no_such_node
 differs c i premise (Some node) = fault_unless (c.same premise.judgement node.judgement) (c.faults.premise_differs i)
 
--- the first premise whose number is not above v, or is no node's, or whose judgement is another; both lists begin at place i
-abbrev pub premises_fault : {J R F : Type 0} → LogicValue J R F → List (ProofNode J R) → ℕ → ℕ → List (Subgoal J) → List ℕ → Option F
+-- the first premise whose number is not above v, or is no node's, or whose judgement is another; both lists begin at
+-- place i
+abbrev pub premises_fault : {J R F : Type 0} → LogicValue J R F → List (ProofNode J R) → ℕ → ℕ → List (Subgoal J)
+    → List ℕ → Option F
 premises_fault c nodes v i [] [] = None
 premises_fault c nodes v i [] (u ∷ us) = Some c.faults.premise_count
 premises_fault c nodes v i (p ∷ ps) [] = Some c.faults.premise_count
 premises_fault c nodes v i (p ∷ ps) (u ∷ us) =
-    first_of (fault_unless (nat_lt v u) c.faults.no_such_node) (first_of (differs c i p (slice_get nodes u)) (premises_fault c nodes v (suc i) ps us))
+    first_of (fault_unless (nat_lt v u) c.faults.no_such_node)
+    (first_of (differs c i p (slice_get nodes u)) (premises_fault c nodes v (suc i) ps us))
 
 -- the fault of the numbers of a rule's premises: there are as many, and each names its premise
-abbrev pub numbers_fault : {J R F : Type 0} → LogicValue J R F → List (ProofNode J R) → ℕ → List (Subgoal J) → List ℕ → Option F
+abbrev pub numbers_fault : {J R F : Type 0} → LogicValue J R F → List (ProofNode J R) → ℕ → List (Subgoal J) → List ℕ
+    → Option F
 numbers_fault c nodes v ps us =
     first_of (fault_unless (nat_eq (length ps) (length us)) c.faults.premise_count) (premises_fault c nodes v 0 ps us)
 
 -- the rule's fault, or else that of the numbers
-abbrev pub rule_fault : {J R F : Type 0} → LogicValue J R F → List (ProofNode J R) → ℕ → List ℕ → Result (List (Subgoal J)) F → Option F
+abbrev pub rule_fault : {J R F : Type 0} → LogicValue J R F → List (ProofNode J R) → ℕ → List ℕ
+    → Result (List (Subgoal J)) F → Option F
 rule_fault c nodes v us (Err f) = Some f
 rule_fault c nodes v us (Ok ps) = numbers_fault c nodes v ps us
 
@@ -52,9 +58,11 @@ abbrev pub count_fault : {J R F : Type 0} → LogicValue J R F → List ℕ → 
 count_fault c us = fault_unless (nat_eq (length us) 0) c.faults.premise_count
 
 -- by the node that the reason names, if it is a link
-abbrev pub reason_fault : {J R F : Type 0} → LogicValue J R F → List (ProofNode J R) → ℕ → List ℕ → J → R → Option ℕ → Option F
+abbrev pub reason_fault : {J R F : Type 0} → LogicValue J R F → List (ProofNode J R) → ℕ → List ℕ → J → R → Option ℕ
+    → Option F
 reason_fault c nodes v us j r None = rule_fault c nodes v us (c.premises j r)
-reason_fault c nodes v us j r (Some target) = first_of (companion_fault c j r (slice_get nodes target)) (count_fault c us)
+reason_fault c nodes v us j r (Some target) = first_of (companion_fault c j r (slice_get nodes target))
+    (count_fault c us)
 
 -- the first fault of node v, none where it is right
 abbrev pub node_fault : {J R F : Type 0} → LogicValue J R F → List (ProofNode J R) → ℕ → ProofNode J R → Option F
@@ -62,7 +70,8 @@ node_fault c nodes v node = reason_fault c nodes v node.premises node.judgement 
 
 -- no node has a fault
 abbrev pub AreRight : {J R F : Type 0} → LogicValue J R F → List (ProofNode J R) → Type 0
-AreRight {J} {R} c nodes = (v : ℕ) (node : ProofNode J R) → slice_get nodes v ≡ Some node → node_fault c nodes v node ≡ None
+AreRight {J} {R} c nodes = (v : ℕ) (node : ProofNode J R) → slice_get nodes v ≡ Some node
+    → node_fault c nodes v node ≡ None
 
 -- no node before v has one
 abbrev pub AreRightBefore : {J R F : Type 0} → LogicValue J R F → List (ProofNode J R) → ℕ → Type 0
@@ -70,7 +79,8 @@ AreRightBefore {J} {R} c nodes v =
     (u : ℕ) (node : ProofNode J R) → u < v → slice_get nodes u ≡ Some node → node_fault c nodes u node ≡ None
 
 -- node v has this first fault, and no node before it has one
-pub record IsLeastFault {J R F : Type 0} (c : LogicValue J R F) (nodes : List (ProofNode J R)) (v : ℕ) (fault : F) : Type 0 where
+pub record IsLeastFault {J R F : Type 0} (c : LogicValue J R F) (nodes : List (ProofNode J R)) (v : ℕ) (fault : F)
+    : Type 0 where
   pub node : ProofNode J R
   pub at : slice_get nodes v ≡ Some node
   pub first : node_fault c nodes v node ≡ Some fault

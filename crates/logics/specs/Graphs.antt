@@ -25,7 +25,8 @@ companion_edges c bud r target None = []
 companion_edges c bud r target (Some node) = link_edges target (c.pairs_back bud r node.judgement)
 
 -- by the node that the reason names, if it is a link
-abbrev pub reason_edges : {J R F : Type 0} → LogicValue J R F → List (ProofNode J R) → List ℕ → J → R → Option ℕ → List Edge
+abbrev pub reason_edges : {J R F : Type 0} → LogicValue J R F → List (ProofNode J R) → List ℕ → J → R → Option ℕ
+    → List Edge
 reason_edges c nodes us j r None = rule_edges us (c.premises j r)
 reason_edges c nodes us j r (Some target) = companion_edges c j r target (slice_get nodes target)
 

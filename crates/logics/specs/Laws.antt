@@ -15,10 +15,13 @@ pub record ArePremises {J R F : Type 0} (c : LogicValue J R F) (j : J) (ps : Lis
   pub few : length ps ≤ 256
   pub fit : (k : ℕ) (p : Subgoal J) → slice_get ps k ≡ Some p → Fits c j p
 
-pub record IsInOrder {J R F : Type 0} (c : LogicValue J R F) (Occurs : J → Type 0) (Allows : J → R → Type 0) : Type 0 where
+pub record IsInOrder {J R F : Type 0} (c : LogicValue J R F) (Occurs : J → Type 0) (Allows : J → R → Type 0)
+    : Type 0 where
   pub same : (j k : J) → c.same j k ≡ true → j ≡ k
-  pub rules : (j : J) (r : R) (ps : List (Subgoal J)) → Occurs j → Allows j r → c.premises j r ≡ Ok ps → ArePremises c j ps
-  pub links : (j : J) (r : R) (k : J) (pairs : List Pair) → Occurs j → Occurs k → Allows j r → c.pairs_back j r k ≡ Ok pairs →
+  pub rules : (j : J) (r : R) (ps : List (Subgoal J)) → Occurs j → Allows j r → c.premises j r ≡ Ok ps
+      → ArePremises c j ps
+  pub links : (j : J) (r : R) (k : J) (pairs : List Pair) → Occurs j → Occurs k → Allows j r
+      → c.pairs_back j r k ≡ Ok pairs →
       AreIn pairs (c.positions j) (c.positions k)
 
 -- the premise holds at all stages that follow these along its pairs
@@ -26,13 +29,16 @@ abbrev pub PremiseHolds : {J : Type 0} → ((ℕ → ℕ) → J → Type 0) → 
 PremiseHolds Holds σ p = (τ : ℕ → ℕ) → Falls p.pairs σ τ → Holds τ p.judgement
 
 -- at all stages the judgement holds if each premise, or the companion, holds at the stages that follow
-pub record IsLocallySound {J R F : Type 0} (c : LogicValue J R F) (Occurs : J → Type 0) (Allows : J → R → Type 0) (Holds : (ℕ → ℕ) → J → Type 0) : Type 0 where
+pub record IsLocallySound {J R F : Type 0} (c : LogicValue J R F) (Occurs : J → Type 0) (Allows : J → R → Type 0)
+    (Holds : (ℕ → ℕ) → J → Type 0) : Type 0 where
   pub rules : (j : J) (r : R) (ps : List (Subgoal J)) → Occurs j → Allows j r → c.premises j r ≡ Ok ps → (σ : ℕ → ℕ) →
       ((k : ℕ) (p : Subgoal J) → slice_get ps k ≡ Some p → PremiseHolds Holds σ p) → Holds σ j
-  pub links : (j : J) (r : R) (k : J) (pairs : List Pair) → Occurs j → Occurs k → Allows j r → c.pairs_back j r k ≡ Ok pairs → (σ : ℕ → ℕ) →
+  pub links : (j : J) (r : R) (k : J) (pairs : List Pair) → Occurs j → Occurs k → Allows j r
+      → c.pairs_back j r k ≡ Ok pairs → (σ : ℕ → ℕ) →
       ((τ : ℕ → ℕ) → Falls pairs σ τ → Holds τ k) → Holds σ j
 
 -- each judgement may occur, and each reason may be given
-pub record MayStand {J R : Type 0} (Occurs : J → Type 0) (Allows : J → R → Type 0) (nodes : List (ProofNode J R)) : Type 0 where
+pub record MayStand {J R : Type 0} (Occurs : J → Type 0) (Allows : J → R → Type 0) (nodes : List (ProofNode J R))
+    : Type 0 where
   pub occurs : (v : ℕ) (node : ProofNode J R) → slice_get nodes v ≡ Some node → Occurs node.judgement
   pub allowed : (v : ℕ) (node : ProofNode J R) → slice_get nodes v ≡ Some node → Allows node.judgement node.reason

@@ -17,7 +17,8 @@ IsNodeAnswer fault edges (Faulty f) = fault ≡ Some f
 
 -- the positions of each judgement are a set of positions
 abbrev pub HaveSets : {J R F : Type 0} → LogicValue J R F → List (ProofNode J R) → Type 0
-HaveSets {J} {R} c nodes = (v : ℕ) (node : ProofNode J R) → slice_get nodes v ≡ Some node → IsPositionSet (c.positions node.judgement)
+HaveSets {J} {R} c nodes = (v : ℕ) (node : ProofNode J R) → slice_get nodes v ≡ Some node
+    → IsPositionSet (c.positions node.judgement)
 
 -- the graph of nodes without a fault, or the least node with one
 abbrev pub IsTested : {J R F : Type 0} → LogicValue J R F → List (ProofNode J R) → Tested F → Type 0

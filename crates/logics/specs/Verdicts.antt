@@ -17,12 +17,15 @@ pub record IsCorrect {J R F : Type 0} (c : LogicValue J R F) (proof : List (Proo
 
 -- the judgement of node 0 holds at all stages
 abbrev pub RootHolds : {J R : Type 0} → ((ℕ → ℕ) → J → Type 0) → List (ProofNode J R) → Type 0
-RootHolds {J} {R} Holds nodes = (root : ProofNode J R) → slice_get nodes 0 ≡ Some root → (σ : ℕ → ℕ) → Holds σ root.judgement
+RootHolds {J} {R} Holds nodes = (root : ProofNode J R) → slice_get nodes 0 ≡ Some root → (σ : ℕ → ℕ)
+    → Holds σ root.judgement
 
 -- what each verdict says; the four exclude one another, so each comes exactly where what it says is true
-abbrev pub IsVerdict : {J R F : Type 0} → LogicValue J R F → ((ℕ → ℕ) → J → Type 0) → List (ProofNode J R) → Verdict F → Type 0
+abbrev pub IsVerdict : {J R F : Type 0} → LogicValue J R F → ((ℕ → ℕ) → J → Type 0) → List (ProofNode J R) → Verdict F
+    → Type 0
 IsVerdict c Holds nodes Accepted = IsCorrect c nodes × HasAtMost (graph_of c nodes) state_limit × RootHolds Holds nodes
 IsVerdict c Holds nodes (RuleRefused v fault) = IsLeastFault c nodes v fault
 IsVerdict c Holds nodes (PathRefused l) =
-    AreRight c nodes × IsLasso (graph_of c nodes) l × (Progresses (graph_of c nodes) l → ⊥) × HasAtMost (graph_of c nodes) state_limit
+    AreRight c nodes × IsLasso (graph_of c nodes) l × (Progresses (graph_of c nodes) l → ⊥)
+    × HasAtMost (graph_of c nodes) state_limit
 IsVerdict c Holds nodes TooManyStates = AreRight c nodes × HasMoreThan (graph_of c nodes) state_limit

@@ -8,8 +8,8 @@ use crate::logic::Logic;
 use crate::node::ProofNode;
 use crate::node_tests::{NodeAnswer, test_node};
 use crate::verdict::Verdict;
-use buchi_inclusion::{Inclusion, MOST_STATES, included};
-use cyc_memory::OutOfMemory;
+use buchi_inclusion::{Inclusion, MOST_PRODUCT_STATES, included};
+use cyc_basics::memory::OutOfMemory;
 use std::alloc::Global;
 use trace_pairs::{Node, TraceGraph};
 
@@ -46,9 +46,10 @@ fn test_nodes<L: Logic>(
     Ok(Tested::Right(graph))
 }
 
-/// The verdict on a proof in a logic: the least node that is not right, with its first fault; else that the product states
-/// are too many; else a lasso that does not progress; else that the proof is correct, and then the judgement of node 0
-/// holds (Brotherston, Gorogiannis and Petersen 2012). Which lasso is named, where several do not progress, is left open.
+/// The verdict on a proof in a logic: the least node that is not right, with its first fault; else that the product
+/// states are too many; else a lasso that does not progress; else that the proof is correct, and then the judgement of
+/// node 0 holds (Brotherston, Gorogiannis and Petersen 2012). Which lasso is named, where several do not progress, is
+/// left open.
 pub fn check_proof<L: Logic>(
     alloc: Global,
     logic: &L,
@@ -63,7 +64,7 @@ pub fn check_proof<L: Logic>(
         Tested::Right(graph) => graph,
         Tested::Faulty { node, fault } => return Ok(Verdict::RuleRefused { node, fault }),
     };
-    match included(alloc, &graph, MOST_STATES)? {
+    match included(alloc, &graph, MOST_PRODUCT_STATES)? {
         Inclusion::Included => Ok(Verdict::Accepted),
         Inclusion::Counter(lasso) => Ok(Verdict::PathRefused { lasso }),
         Inclusion::TooManyStates => Ok(Verdict::TooManyStates),

@@ -6,7 +6,7 @@ ghost use Rattle.logics.specs.Answers.{IsPremises, IsPairsBack};
 ghost use Rattle.logics.specs.Laws.{IsInOrder, IsLocallySound};
 
 use crate::premises::{Subgoal, TracePairs};
-use cyc_memory::OutOfMemory;
+use cyc_basics::memory::OutOfMemory;
 use std::alloc::Global;
 
 /// A rule's or link's first fault, or that memory is out.

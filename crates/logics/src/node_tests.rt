@@ -1,6 +1,7 @@
 // The first fault of a node, or its edges.
 ghost use Rattle.std.specs.Prelude.{[], ◌∷◌, Some, None, ◌≡◌, ◌<◌, ◌^◌, length, slice_get, nat_lt, IfOk};
-ghost use Rattle.logics.specs.Faults.{first_of, fault_unless, differs, premises_fault as premises_fault_of, numbers_fault as numbers_fault_of, reason_fault, node_fault};
+ghost use Rattle.logics.specs.Faults.{first_of, fault_unless, differs, premises_fault as premises_fault_of};
+ghost use Rattle.logics.specs.Faults.{numbers_fault as numbers_fault_of, reason_fault, node_fault};
 ghost use Rattle.logics.specs.Graphs.{edges_to, reason_edges, edges_of};
 ghost use Rattle.logics.specs.Laws.{MayStand};
 ghost use Rattle.logics.specs.Tests.{IsNodeAnswer};
@@ -8,7 +9,7 @@ ghost use Rattle.logics.specs.Tests.{IsNodeAnswer};
 use crate::logic::{Logic, Refused};
 use crate::node::ProofNode;
 use crate::premises::Subgoal;
-use cyc_memory::OutOfMemory;
+use cyc_basics::memory::OutOfMemory;
 use std::alloc::Global;
 use trace_pairs::Edge;
 
@@ -143,7 +144,8 @@ fn test_link<L: Logic>(
     requires allowed { L.allows logic.now node.now.judgement node.now.reason }
     requires stand { MayStand (L.occurs logic.now) (L.allows logic.now) nodes.now }
     ensures { IfOk result (IsNodeAnswer
-        (reason_fault (L.logic logic.now) nodes.now v node.now.premises node.now.judgement node.now.reason (Some target))
+        (reason_fault (L.logic logic.now) nodes.now v node.now.premises node.now.judgement node.now.reason
+        (Some target))
         (reason_edges (L.logic logic.now) nodes.now node.now.premises node.now.judgement node.now.reason (Some target))) }
 {
     let Some(companion) = nodes.get(target as usize) else {

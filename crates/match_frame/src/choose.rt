@@ -7,7 +7,7 @@ ghost use Rattle.rule_table.specs.Answer.{one};
 ghost use Rattle.rule_table.specs.Answered.{IsAnswer};
 ghost use Rattle.rule_table.specs.Table.{with_right, choose_answer};
 
-use cyc_memory::OutOfMemory;
+use cyc_basics::memory::OutOfMemory;
 use heap_formula::{Heap, Judgement, Premise, RuleError, RuleFault};
 use rule_table::{one_premise, with_disjunct};
 use std::alloc::Global;

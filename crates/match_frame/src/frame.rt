@@ -9,7 +9,7 @@ ghost use Rattle.rule_table.specs.Answer.{one};
 ghost use Rattle.rule_table.specs.Answered.{IsAnswer};
 ghost use Rattle.rule_table.specs.Table.{without_spatial, frame_answer};
 
-use cyc_memory::OutOfMemory;
+use cyc_basics::memory::OutOfMemory;
 use heap_formula::{Disjuncts, Heap, Judgement, Premise, RuleError, RuleFault};
 use rule_table::{is_same_atom, is_universal_spatial, one_premise, pairs_of_kept};
 use std::alloc::Global;
@@ -65,8 +65,8 @@ fn frame(alloc: Global, judgement: &Judgement, i: u32, k: u32) -> Result<Vec<Pre
     Ok(framed(alloc, a, b, i as usize, k as usize)?)
 }
 
-/// The entailment without spatial atom `i` of the antecedent and spatial atom `k` of its one disjunct, each counted from
-/// 0, where the two are one as they stand and have no existential variable (Berdine, Calcagno and O'Hearn 2005).
+/// The entailment without spatial atom `i` of the antecedent and spatial atom `k` of its one disjunct, each counted
+/// from 0, where the two are one as they stand and have no existential variable (Berdine, Calcagno and O'Hearn 2005).
 pub fn premises_frame(
     alloc: Global,
     judgement: &Judgement,

@@ -9,7 +9,7 @@ mod instantiate;
 mod pure_right;
 
 pub use choose::premises_choose;
-pub use cyc_memory::OutOfMemory;
+pub use cyc_basics::memory::OutOfMemory;
 pub use done::premises_done;
 pub use frame::premises_frame;
 pub use instantiate::premises_instantiate;

@@ -7,7 +7,7 @@ ghost use Rattle.rule_table.specs.Answer.{one};
 ghost use Rattle.rule_table.specs.Answered.{IsAnswer};
 ghost use Rattle.rule_table.specs.Table.{with_right, without_pure, pure_right_answer};
 
-use cyc_memory::OutOfMemory;
+use cyc_basics::memory::OutOfMemory;
 use heap_formula::{Heap, Judgement, Premise, RuleError, RuleFault};
 use rule_table::{atoms_without, follows, is_universal_pure, one_premise, with_disjunct};
 use std::alloc::Global;
@@ -45,8 +45,8 @@ fn pure_right(alloc: Global, judgement: &Judgement, k: u32) -> Result<Vec<Premis
     Ok(shortened(alloc, a, b, k as usize)?)
 }
 
-/// The entailment without pure atom `k` of its one disjunct, counted from 0, where it has no existential variable and is
-/// an equation of a term with itself or, up to the order of its terms, a pure atom of the antecedent.
+/// The entailment without pure atom `k` of its one disjunct, counted from 0, where it has no existential variable and
+/// is an equation of a term with itself or, up to the order of its terms, a pure atom of the antecedent.
 pub fn premises_pure_right(
     alloc: Global,
     judgement: &Judgement,

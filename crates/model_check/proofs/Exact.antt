@@ -20,20 +20,31 @@ use Rattle.model_check.specs.Grounding.{PiecesFit, Extends, AskedPieces, IsRule,
 use Rattle.model_check.proofs.Asking.{pieces_kept}
 use Rattle.model_check.proofs.QuestionLists.{question_within}
 use Rattle.model_check.proofs.Rounds.{union_map, derived_in, unions_satisfy, satisfied_unions}
-use Rattle.formula_facts.proofs.AllMembers.{each_imply}
+use Rattle.heap_formula.proofs.AllMembers.{each_imply}
 
-pub heads_fit : (ds : List Definition) (h : Cells) (ns : List ℕ) (qs : List Question) (rules : List GroundRule) (n : ℕ) → length qs ≡ n → Grounds ds h ns qs rules → HeadsFit n rules
+pub heads_fit : (ds : List Definition) (h : Cells) (ns : List ℕ) (qs : List Question) (rules : List GroundRule) (n : ℕ)
+    → length qs ≡ n → Grounds ds h ns qs rules → HeadsFit n rules
 heads_fit ds h ns qs rules n e g =
-    subst (λ m. HeadsFit m rules) e (each_imply (IsRule ds h ns qs) (λ r. r.head < length qs) (λ r k. question_within qs r.head k.predicate k.values k.question) rules g.sound)
+    subst (λ m. HeadsFit m rules) e (each_imply (IsRule ds h ns qs) (λ r. r.head < length qs)
+    (λ r k. question_within qs r.head k.predicate k.values k.question) rules g.sound)
 
 -- a solved table tells whether the stack and the heap satisfy the formula
-pub exact : (ds : List Definition) (h : Cells) (ns : List ℕ) (qs : List Question) (rules : List GroundRule) (T : Table) (s e : Stack) (a : SymbolicHeap) (ys : List Piece) → Grounds ds h ns qs rules → IsSolved rules T → IsOnly h s e a → PiecesFit ns qs s e a.spatial ys → Unions T ys (mask_of ns h) ↔ Satisfies ds s h a
+pub exact : (ds : List Definition) (h : Cells) (ns : List ℕ) (qs : List Question) (rules : List GroundRule) (T : Table)
+    (s e : Stack) (a : SymbolicHeap) (ys : List Piece) → Grounds ds h ns qs rules → IsSolved rules T → IsOnly h s e a
+    → PiecesFit ns qs s e a.spatial ys → Unions T ys (mask_of ns h) ↔ Satisfies ds s h a
 exact ds h ns qs rules T s e a ys g t k z = (
-  λ u. unions_satisfy ds h ns qs rules g.covers g.heap g.sound s e a ys k.fits z (union_map T (derived rules) t.sound ys (mask_of ns h) u),
-  λ x. union_map (derived rules) T (derived_in rules T t) ys (mask_of ns h) (satisfied_unions ds h ns qs rules g s e a ys k z x),
+  λ u. unions_satisfy ds h ns qs rules g.covers g.heap g.sound s e a ys k.fits z
+      (union_map T (derived rules) t.sound ys (mask_of ns h) u),
+  λ x. union_map (derived rules) T (derived_in rules T t) ys (mask_of ns h)
+      (satisfied_unions ds h ns qs rules g s e a ys k z x),
 )
 
-pub masks_exact : (ds : List Definition) (h : Cells) (ns : List ℕ) (q0 q1 q2 : List Question) (rules rs : List GroundRule) (table tv : List Row) (s e : Stack) (a : SymbolicHeap) (xs : List Spatial) (ys yv : List Piece) (out : Row) → xs ≡ a.spatial → rs ≡ rules → tv ≡ table → yv ≡ ys → AskedPieces ns q0 q1 s e xs ys → Extends q1 q2 → Grounds ds h ns q2 rules → IsSolved rs (HasMask table) → IsOnly h s e a → ((m : ℕ) → HoldsMask m out ↔ Unions (HasMask tv) yv m) → HoldsMask (mask_of ns h) out ↔ Satisfies ds s h a
+pub masks_exact : (ds : List Definition) (h : Cells) (ns : List ℕ) (q0 q1 q2 : List Question)
+    (rules rs : List GroundRule) (table tv : List Row) (s e : Stack) (a : SymbolicHeap) (xs : List Spatial)
+    (ys yv : List Piece) (out : Row) → xs ≡ a.spatial → rs ≡ rules → tv ≡ table → yv ≡ ys
+    → AskedPieces ns q0 q1 s e xs ys → Extends q1 q2 → Grounds ds h ns q2 rules → IsSolved rs (HasMask table)
+    → IsOnly h s e a → ((m : ℕ) → HoldsMask m out ↔ Unions (HasMask tv) yv m) → HoldsMask (mask_of ns h) out
+    ↔ Satisfies ds s h a
 masks_exact ds h ns q0 q1 q2 rules rs table tv s e a xs ys yv out xe re te ye ask ext g t k u =
     let z1 = subst (λ ws. PiecesFit ns q1 s e ws ys) xe ask.pieces in
     let z : PiecesFit ns q2 s e a.spatial ys = pieces_kept ns q1 q2 ext s e a.spatial ys z1 in
@@ -44,22 +55,27 @@ masks_exact ds h ns q0 q1 q2 rules rs table tv s e a xs ys yv out xe re te ye as
     let v : HoldsMask (mask_of ns h) out ↔ Unions (HasMask table) ys (mask_of ns h) = v1 (mask_of ns h) in
     (λ y. x.0 (v.0 y), λ y. v.1 (x.1 y))
 
-pub answer : (ds : List Definition) (h : Cells) (ns : List ℕ) (s : Stack) (a : SymbolicHeap) (out ov : Row) (m : ℕ) (b : Bool) → ov ≡ out → m ≡ mask_of ns h → HoldsMask (mask_of ns h) out ↔ Satisfies ds s h a → IsTrue b ↔ HoldsMask m ov → IsTrue b ↔ Satisfies ds s h a
+pub answer : (ds : List Definition) (h : Cells) (ns : List ℕ) (s : Stack) (a : SymbolicHeap) (out ov : Row) (m : ℕ)
+    (b : Bool) → ov ≡ out → m ≡ mask_of ns h → HoldsMask (mask_of ns h) out ↔ Satisfies ds s h a → IsTrue b
+    ↔ HoldsMask m ov → IsTrue b ↔ Satisfies ds s h a
 answer ds h ns s a out ov m b oe me x i =
     let j0 = subst (λ ws. IsTrue b ↔ HoldsMask m ws) oe i in
     let j : IsTrue b ↔ HoldsMask (mask_of ns h) out = subst (λ n. IsTrue b ↔ HoldsMask n out) me j0 in
     (λ y. x.0 (j.0 y), λ y. j.1 (x.1 y))
 
-pub never : (ds : List Definition) (h : Cells) (s : Stack) (a : SymbolicHeap) → ((e : Stack) → Fits h s e a → ⊥) → IsTrue false ↔ Satisfies ds s h a
+pub never : (ds : List Definition) (h : Cells) (s : Stack) (a : SymbolicHeap) → ((e : Stack) → Fits h s e a → ⊥)
+    → IsTrue false ↔ Satisfies ds s h a
 never ds h s a n = (λ t. absurd (let z : false ≡ true = t in cc), λ x. absurd (never_fits x))
   where
     never_fits : Satisfies ds s h a → ⊥
     never_fits x = n x.1.0 (holds_fits (λ k. at_stage ds (x.0 k)) s x.1.0 a h h (inside_all h) x.1.1)
 
-pub heads_fit_at : (ds : List Definition) (h : Cells) (ns : List ℕ) (qs : List Question) (rules rs : List GroundRule) (n : ℕ) → length qs ≡ n → rs ≡ rules → Grounds ds h ns qs rules → HeadsFit n rs
+pub heads_fit_at : (ds : List Definition) (h : Cells) (ns : List ℕ) (qs : List Question) (rules rs : List GroundRule)
+    (n : ℕ) → length qs ≡ n → rs ≡ rules → Grounds ds h ns qs rules → HeadsFit n rs
 heads_fit_at ds h ns qs rules rs n e w g = subst (HeadsFit n) (sym w) (heads_fit ds h ns qs rules n e g)
 
-pub given : (U : ℕ → Type 0) (out ov : Row) (m : ℕ) (b : Bool) → ov ≡ out → ((n : ℕ) → HoldsMask n out ↔ U n) → IsTrue b ↔ HoldsMask m ov → IsTrue b ↔ U m
+pub given : (U : ℕ → Type 0) (out ov : Row) (m : ℕ) (b : Bool) → ov ≡ out → ((n : ℕ) → HoldsMask n out ↔ U n) → IsTrue b
+    ↔ HoldsMask m ov → IsTrue b ↔ U m
 given U out ov m b e u i =
     let j = subst (λ ws. IsTrue b ↔ HoldsMask m ws) e i in
     (λ y. (u m).0 (j.0 y), λ y. j.1 ((u m).1 y))

@@ -12,9 +12,10 @@ use Rattle.heap_formula.specs.Values.{Stack, value, values}
 use Rattle.heap_formula.specs.Cells.{Cells, cell_at}
 use Rattle.heap_formula.specs.Meaning.{PureHolds}
 use Rattle.heap_formula.specs.Closedness.{InHeap}
-use Rattle.list_facts.specs.Words.{IsMember}
+use Rattle.cyc_basics.specs.Words.{IsMember}
 
--- the known terms of a formula: nil and the universals, the other side of an equation with a known side, and the fields of a cell with a known address
+-- the known terms of a formula: nil and the universals, the other side of an equation with a known side, and the fields
+-- of a cell with a known address
 pub data Known (a : SymbolicHeap) : Term → Type 0 where
   nil : Known a Nil
   universal : (n : ℕ) → Known a (Univ n)

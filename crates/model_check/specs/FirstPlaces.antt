@@ -19,7 +19,8 @@ IsFirstBadCase [] p c = ⊥
 IsFirstBadCase (d ∷ ds) zero c = IsFirstBad d.cases c
 IsFirstBadCase (d ∷ ds) (suc p) c = Each IsConstructive d.cases × IsFirstBadCase ds p c
 
--- the first place that is not constructive: a case of the definitions, or, where all cases are constructive, one of the formulas
+-- the first place that is not constructive: a case of the definitions, or, where all cases are constructive, one of the
+-- formulas
 abbrev pub IsPlace : List Definition → List SymbolicHeap → Place → Type 0
 IsPlace ds asks (Case p c) = IsFirstBadCase ds p c
 IsPlace ds asks (Ask d) = AreConstructive ds × IsFirstBad asks d

@@ -13,7 +13,7 @@ use Rattle.model_check.specs.declared.ground.Piece.TheVariants.{Here, Of}
 use Rattle.model_check.specs.declared.ground.GroundRule.{GroundRule}
 use Rattle.model_check.specs.Questions.{Question}
 use Rattle.model_check.specs.Constructive.{Fits}
-use Rattle.list_facts.specs.Words.{IsMember}
+use Rattle.cyc_basics.specs.Words.{IsMember}
 use Rattle.model_check.specs.MaskParts.{place, Covers}
 
 -- the question has this number
@@ -44,18 +44,21 @@ pub record IsRule (ds : List Definition) (h : Cells) (ns : List ℕ) (qs : List 
   pub predicate : ℕ
   pub values : List ℕ
   pub question : IsQuestion qs r.head predicate values
-  pub of_case : OneOf (λ b. (e : Stack) × Fits h values e b × PiecesFit ns qs values e b.spatial r.pieces) (cases_of ds predicate)
+  pub of_case : OneOf (λ b. (e : Stack) × Fits h values e b × PiecesFit ns qs values e b.spatial r.pieces)
+      (cases_of ds predicate)
 
 -- some rule is this case at these values of the locals
 abbrev pub HasRule : List ℕ → List Question → List GroundRule → ℕ → List ℕ → Stack → List Spatial → Type 0
 HasRule ns qs rules q vs e xs = OneOf (λ r. (r.head ≡ q) × PiecesFit ns qs vs e xs r.pieces) rules
 
 -- each case of the question's predicate, at each choice of locals that fits, is a rule
-pub record IsAnswered (ds : List Definition) (h : Cells) (ns : List ℕ) (qs : List Question) (rules : List GroundRule) (q p : ℕ) (vs : List ℕ) : Type 0 where
+pub record IsAnswered (ds : List Definition) (h : Cells) (ns : List ℕ) (qs : List Question) (rules : List GroundRule)
+    (q p : ℕ) (vs : List ℕ) : Type 0 where
   pub has : Each (λ b. (e : Stack) → Fits h vs e b → HasRule ns qs rules q vs e b.spatial) (cases_of ds p)
 
 -- the rules are the cases of the questions, and all of them
-pub record Grounds (ds : List Definition) (h : Cells) (ns : List ℕ) (qs : List Question) (rules : List GroundRule) : Type 0 where
+pub record Grounds (ds : List Definition) (h : Cells) (ns : List ℕ) (qs : List Question) (rules : List GroundRule)
+    : Type 0 where
   pub covers : Covers ns h
   pub heap : IsHeap h
   pub sound : Each (IsRule ds h ns qs) rules
@@ -74,7 +77,8 @@ pub record AskedPiece (ns : List ℕ) (old new : List Question) (s e : Stack) (x
   pub extends : Extends old new
   pub piece : PieceFits ns new s e x y
 
-pub record AskedPieces (ns : List ℕ) (old new : List Question) (s e : Stack) (xs : List Spatial) (ys : List Piece) : Type 0 where
+pub record AskedPieces (ns : List ℕ) (old new : List Question) (s e : Stack) (xs : List Spatial) (ys : List Piece)
+    : Type 0 where
   pub extends : Extends old new
   pub pieces : PiecesFit ns new s e xs ys
 
@@ -84,17 +88,21 @@ IsListed ns s e (Cell t ts) = IsMember (value s e t) ns
 IsListed ns s e (Pred p ts) = Unit {0}
 
 -- after a case at given values: each choice of locals that fits has its rule, and what was added is such a rule
-pub record GroundedCase (h : Cells) (ns : List ℕ) (qs qs' : List Question) (rules rules' : List GroundRule) (head : ℕ) (vs : List ℕ) (b : SymbolicHeap) : Type 0 where
+pub record GroundedCase (h : Cells) (ns : List ℕ) (qs qs' : List Question) (rules rules' : List GroundRule) (head : ℕ)
+    (vs : List ℕ) (b : SymbolicHeap) : Type 0 where
   pub extends : Extends qs qs'
-  pub more : (rules' ≡ rules) ⊎ ((r : GroundRule) × (rules' ≡ rules ++ r ∷ []) × (r.head ≡ head) × ((e : Stack) × Fits h vs e b × PiecesFit ns qs' vs e b.spatial r.pieces))
+  pub more : (rules' ≡ rules) ⊎ ((r : GroundRule) × (rules' ≡ rules ++ r ∷ []) × (r.head ≡ head)
+      × ((e : Stack) × Fits h vs e b × PiecesFit ns qs' vs e b.spatial r.pieces))
   pub has : (e : Stack) → Fits h vs e b → HasRule ns qs' rules' head vs e b.spatial
 
 -- the rule is one of these cases at these values
 abbrev pub IsCaseRule : Cells → List ℕ → List Question → ℕ → List ℕ → List SymbolicHeap → GroundRule → Type 0
-IsCaseRule h ns qs head vs bs r = (r.head ≡ head) × OneOf (λ b. (e : Stack) × Fits h vs e b × PiecesFit ns qs vs e b.spatial r.pieces) bs
+IsCaseRule h ns qs head vs bs r = (r.head ≡ head) × OneOf (λ b. (e : Stack) × Fits h vs e b
+    × PiecesFit ns qs vs e b.spatial r.pieces) bs
 
 -- the same for several cases
-pub record GroundedCases (h : Cells) (ns : List ℕ) (qs qs' : List Question) (rules rules' : List GroundRule) (head : ℕ) (vs : List ℕ) (bs : List SymbolicHeap) : Type 0 where
+pub record GroundedCases (h : Cells) (ns : List ℕ) (qs qs' : List Question) (rules rules' : List GroundRule) (head : ℕ)
+    (vs : List ℕ) (bs : List SymbolicHeap) : Type 0 where
   pub extends : Extends qs qs'
   pub added : List GroundRule
   pub more : rules' ≡ rules ++ added
@@ -102,6 +110,7 @@ pub record GroundedCases (h : Cells) (ns : List ℕ) (qs qs' : List Question) (r
   pub has : Each (λ b. (e : Stack) → Fits h vs e b → HasRule ns qs' rules' head vs e b.spatial) bs
 
 -- the rules are cases of the questions, and all of those of the first questions
-pub record IsGrounded (ds : List Definition) (h : Cells) (ns : List ℕ) (qs : List Question) (rules : List GroundRule) (done : ℕ) : Type 0 where
+pub record IsGrounded (ds : List Definition) (h : Cells) (ns : List ℕ) (qs : List Question) (rules : List GroundRule)
+    (done : ℕ) : Type 0 where
   pub sound : Each (IsRule ds h ns qs) rules
   pub complete : (q p : ℕ) (vs : List ℕ) → q < done → IsQuestion qs q p vs → IsAnswered ds h ns qs rules q p vs

@@ -1,10 +1,11 @@
 -- Parts of a heap as sets of bits.
-use Rattle.std.specs.Prelude.{◌≡◌, ℕ, zero, suc, ◌+◌, ◌*◌, ◌^◌, List, [], ◌∷◌, Bool, cond, if◌then◌else◌, nat_eq, ◌&&◌, slice_index, length, Some}
+use Rattle.std.specs.Prelude.{◌≡◌, ℕ, zero, suc, ◌+◌, ◌*◌, ◌^◌, List, [], ◌∷◌, Bool, cond, if◌then◌else◌, nat_eq, ◌&&◌}
+use Rattle.std.specs.Prelude.{slice_index, length, Some}
 use Rattle.std.specs.Option.{is_some}
 use Rattle.std.specs.FinMap.{retain_keys}
 use Rattle.heap_formula.specs.Cells.{Cells, cell_at}
-use Rattle.list_facts.specs.Words.{IsMember}
-use Rattle.list_facts.specs.Bits.{is_one}
+use Rattle.cyc_basics.specs.Words.{IsMember}
+use Rattle.cyc_basics.specs.Bits.{is_one}
 
 -- the first place of an address, the length where it does not stand
 abbrev pub place : List ℕ → ℕ → ℕ
@@ -22,7 +23,8 @@ from_bits b (suc k) = cond (b k) 1 0 * 2 ^ k + from_bits b k
 
 -- the place has an address of the heap, which stands at no earlier place
 abbrev pub stands : List ℕ → Cells → ℕ → Bool
-stands addresses h i = nat_eq (place addresses (slice_index addresses i)) i && is_some (cell_at h (slice_index addresses i))
+stands addresses h i = nat_eq (place addresses (slice_index addresses i)) i && is_some
+    (cell_at h (slice_index addresses i))
 
 abbrev pub mask_of : List ℕ → Cells → ℕ
 mask_of addresses h = from_bits (stands addresses h) (length addresses)

@@ -7,7 +7,7 @@ use Rattle.std.specs.Cmp.{IsPartialEquivalence, IsEquivalence, decided, partial_
 use Rattle.std.specs.Cmp.Lexicographic.{pointwise}
 use Rattle.std.specs.Hash as fed
 use Rattle.std.specs.Hash.{HashWrites}
-use Rattle.list_facts.proofs.Tests.{pointwise_is, pointwise_self}
+use Rattle.cyc_basics.proofs.Tests.{pointwise_is, pointwise_self}
 
 pub record Question : Type 0 where
   pub predicate : ℕ
@@ -18,16 +18,22 @@ question_eq a b = nat_eq a.predicate b.predicate && pointwise nat_eq a.values b.
 
 -- lists that `==` takes for equal are one list
 pub lists_decide : (xs ys : List ℕ) → Decides (pointwise nat_eq xs ys) (xs ≡ ys)
-lists_decide xs ys = (pointwise_is nat_eq (λ x y. eqb-true x y) xs ys, λ e. subst (λ zs. pointwise nat_eq xs zs ≡ true) e (pointwise_self nat_eq (λ x. eq-eqb x x refl) xs))
+lists_decide xs ys = (
+  pointwise_is nat_eq (λ x y. eqb-true x y) xs ys,
+  λ e.
+      subst (λ zs. pointwise nat_eq xs zs ≡ true) e (pointwise_self nat_eq (λ x. eq-eqb x x refl) xs),
+)
 
 pub question_same : (a b : Question) → question_eq a b ≡ true → a ≡ b
 question_same a b h =
     let p = and_parts (nat_eq a.predicate b.predicate) (pointwise nat_eq a.values b.values) h in
     let e : a.predicate ≡ b.predicate = eqb-true a.predicate b.predicate p.0 in
-    let f = pointwise_is nat_eq (λ x y. eqb-true x y) a.values b.values p.1 in λ i. record { predicate = e i; values = f i }
+    let f = pointwise_is nat_eq (λ x y. eqb-true x y) a.values b.values p.1 in
+    λ i. record { predicate = e i; values = f i }
 
 pub question_refl : (a : Question) → question_eq a a ≡ true
-question_refl a = and_from (nat_eq a.predicate a.predicate) (pointwise nat_eq a.values a.values) (eq-eqb a.predicate a.predicate refl) (pointwise_self nat_eq (λ x. eq-eqb x x refl) a.values)
+question_refl a = and_from (nat_eq a.predicate a.predicate) (pointwise nat_eq a.values a.values)
+    (eq-eqb a.predicate a.predicate refl) (pointwise_self nat_eq (λ x. eq-eqb x x refl) a.values)
 
 question_decides : (a b : Question) → Decides (question_eq a b) (a ≡ b)
 question_decides a b = (question_same a b, λ e. subst (λ z. question_eq a z ≡ true) e (question_refl a))

@@ -1,5 +1,6 @@
 -- Tables of masks.
-use Rattle.std.specs.Prelude.{◌<◌, ◌≤◌, ◌^◌, ◌↔◌, ◌⊎◌, ◌≡◌, ℕ, List, [], ◌∷◌, ◌++◌, Bool, true, false, Option, Some, None, slice_get, slice_index}
+use Rattle.std.specs.Prelude.{◌<◌, ◌≤◌, ◌^◌, ◌↔◌, ◌⊎◌, ◌≡◌, ℕ, List, [], ◌∷◌, ◌++◌, Bool, true, false, Option, Some}
+use Rattle.std.specs.Prelude.{None, slice_get, slice_index}
 use Rattle.heap_formula.specs.Words.{Each, OneOf}
 use Rattle.model_check.specs.declared.ground.Piece.{Piece}
 use Rattle.model_check.specs.declared.ground.Piece.TheVariants.{Here, Of}
@@ -84,7 +85,8 @@ IsFresh grown time pieces = (0 < time) × Each (IsOld grown time) pieces
 -- a rule that is fresh gives nothing new
 abbrev pub AreSettled : List Row → List ℕ → List ℕ → List GroundRule → Type 0
 AreSettled table grown applied rules =
-    (i : ℕ) (r : GroundRule) → slice_get rules i ≡ Some r → IsFresh grown (slice_index applied i) r.pieces → IsClosed table r
+    (i : ℕ) (r : GroundRule) → slice_get rules i ≡ Some r → IsFresh grown (slice_index applied i) r.pieces
+    → IsClosed table r
 
 -- none of the times is later than this one
 abbrev pub AreBefore : List ℕ → ℕ → Type 0

@@ -5,14 +5,15 @@ ghost use Rattle.heap_formula.specs.Values.{values};
 ghost use Rattle.model_check.specs.Constructive.{AreConstructive, IsConstructive};
 ghost use Rattle.model_check.specs.ForcedLocals.{stack_of};
 ghost use Rattle.model_check.specs.MaskParts.{place, Covers};
-ghost use Rattle.model_check.specs.Grounding.{IsListed, Extends, AskedPiece, AskedPieces, GroundedCase, GroundedCases, Grounds, IsQuestionAt};
+ghost use Rattle.model_check.specs.Grounding.{IsListed, Extends, AskedPiece, AskedPieces, GroundedCase, GroundedCases};
+ghost use Rattle.model_check.specs.Grounding.{Grounds, IsQuestionAt};
 ghost use Rattle.heap_formula.specs.Meaning.{cases_of};
 ghost use Rattle.heap_formula.specs.Cells.{IsHeap};
 
 use crate::ground::{GroundRule, Piece, Pieces};
 use crate::locals::{Local, locals_of, term_in, terms_in};
 use crate::questions::{Question, ask, question_at};
-use cyc_memory::OutOfMemory;
+use cyc_basics::memory::OutOfMemory;
 use goto_lang::Cells;
 use heap_formula::{Heap, Spatial};
 use indexmap::IndexSet;

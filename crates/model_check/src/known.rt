@@ -3,16 +3,17 @@ ghost use Rattle.std.specs.Prelude.{◌≡◌, ◌<◌, ◌≤◌, ◌++◌, ◌
 ghost use Rattle.heap_formula.specs.Words.{Each};
 ghost use Rattle.heap_formula.specs.Closedness.{InPure, InSpatial, InHeap};
 ghost use Rattle.model_check.specs.Constructive.{IsConstructive};
-ghost use Rattle.list_facts.specs.Words.{IsMember};
-ghost use Rattle.model_check.specs.Steps.{source, target, IsKnownIn, AreLearned, Learns, AllTaken, pure_steps, field_steps, spatial_steps, steps_of};
+ghost use Rattle.cyc_basics.specs.Words.{IsMember};
+ghost use Rattle.model_check.specs.Steps.{source, target, IsKnownIn, AreLearned, Learns, AllTaken, pure_steps};
+ghost use Rattle.model_check.specs.Steps.{field_steps, spatial_steps, steps_of};
 
-use cyc_memory::OutOfMemory;
+use cyc_basics::memory::OutOfMemory;
 use heap_formula::{Heap, Pure, Spatial, Term};
 use std::alloc::Global;
 
 /// A known term makes another one known: as the other side of an equation, or as a field of the cell at its value.
 #[derive(Clone, Copy)]
-pub enum Step {
+pub enum ValueStep {
     Same(Term, Term),
     Field(Term, usize, Term),
 }
@@ -39,30 +40,30 @@ pub fn is_known(known: &[Term], term: Term) -> bool
     }
 }
 
-fn push_pure_steps(steps: &mut Vec<Step>, atom: &Pure) -> Result<(), OutOfMemory>
+fn push_pure_steps(steps: &mut Vec<ValueStep>, atom: &Pure) -> Result<(), OutOfMemory>
     ensures { OnOk result (steps.new.items ≡ steps.old.items ++ pure_steps atom.now) }
 {
     if let Pure::Eq(t, u) = atom {
-        steps.push(Step::Same(*t, *u))?;
-        steps.push(Step::Same(*u, *t))?;
+        steps.push(ValueStep::Same(*t, *u))?;
+        steps.push(ValueStep::Same(*u, *t))?;
     }
     Ok(())
 }
 
 fn push_field_steps(
-    steps: &mut Vec<Step>,
+    steps: &mut Vec<ValueStep>,
     address: Term,
     fields: &[Term],
 ) -> Result<(), OutOfMemory>
     ensures { OnOk result (steps.new.items ≡ steps.old.items ++ field_steps address 0 fields.now) }
 {
     for (k, field) in fields.iter().enumerate() {
-        steps.push(Step::Field(address, k, *field))?;
+        steps.push(ValueStep::Field(address, k, *field))?;
     }
     Ok(())
 }
 
-fn push_spatial_steps(steps: &mut Vec<Step>, atom: &Spatial) -> Result<(), OutOfMemory>
+fn push_spatial_steps(steps: &mut Vec<ValueStep>, atom: &Spatial) -> Result<(), OutOfMemory>
     ensures { OnOk result (steps.new.items ≡ steps.old.items ++ spatial_steps atom.now) }
 {
     match atom {
@@ -72,7 +73,7 @@ fn push_spatial_steps(steps: &mut Vec<Step>, atom: &Spatial) -> Result<(), OutOf
 }
 
 /// The steps of a formula's equations and cells.
-pub fn steps_of(alloc: Global, heap: &Heap) -> Result<Vec<Step>, OutOfMemory>
+pub fn steps_of(alloc: Global, heap: &Heap) -> Result<Vec<ValueStep>, OutOfMemory>
     ensures { IfOk result (λ steps. steps.items ≡ steps_of heap.now) }
 {
     let mut steps = Vec::new(alloc);
@@ -95,17 +96,17 @@ fn take_step(known: &mut Vec<Term>, from: Term, to: Term) -> Result<(), OutOfMem
     Ok(())
 }
 
-fn follow_step(known: &mut Vec<Term>, step: &Step) -> Result<(), OutOfMemory>
+fn follow_step(known: &mut Vec<Term>, step: &ValueStep) -> Result<(), OutOfMemory>
     ensures { OnOk result (Learns known.old.items known.new.items (source step.now) (target step.now)) }
 {
     match step {
-        Step::Same(t, u) => take_step(known, *t, *u),
-        Step::Field(t, _, u) => take_step(known, *t, *u),
+        ValueStep::Same(t, u) => take_step(known, *t, *u),
+        ValueStep::Field(t, _, u) => take_step(known, *t, *u),
     }
 }
 
 /// Takes each step once.
-fn learn_round(known: &mut Vec<Term>, steps: &[Step]) -> Result<(), OutOfMemory>
+fn learn_round(known: &mut Vec<Term>, steps: &[ValueStep]) -> Result<(), OutOfMemory>
     requires { AreLearned steps.now known.old.items }
     ensures sound { OnOk result (AreLearned steps.now known.new.items) }
     ensures longer { OnOk result (vec_len known.old ≤ vec_len known.new) }
@@ -118,7 +119,7 @@ fn learn_round(known: &mut Vec<Term>, steps: &[Step]) -> Result<(), OutOfMemory>
 }
 
 /// The existential terms that steps lead to.
-pub fn known_terms(alloc: Global, steps: &[Step]) -> Result<Vec<Term>, OutOfMemory>
+pub fn known_terms(alloc: Global, steps: &[ValueStep]) -> Result<Vec<Term>, OutOfMemory>
     ensures sound { IfOk result (λ known. AreLearned steps.now known.items) }
     ensures closed { IfOk result (λ known. AllTaken known.items steps.now) }
 {

@@ -15,7 +15,7 @@ mod unions;
 
 pub use ground::{GroundRule, Piece, Pieces};
 pub use grounding::{copied_question, ground_case};
-pub use known::{Step, is_constructive, is_heap_known, is_known, known_terms, steps_of};
+pub use known::{ValueStep, is_constructive, is_heap_known, is_known, known_terms, steps_of};
 pub use mask::Mask;
 pub use places::{Place, constructive, constructive_all};
 pub use questions::Question;

@@ -1,16 +1,18 @@
 // The values that a heap forces on the locals of a formula.
-ghost use Rattle.std.specs.Prelude.{◌≡◌, ◌<◌, ◌↔◌, Bool, true, false, Ok, IsTrue, IfOk, OnOk, MatchOption, Some, None, vec_len, slice_get, slice_index};
+ghost use Rattle.std.specs.Prelude.{◌≡◌, ◌<◌, ◌↔◌, Bool, true, false, Ok, IsTrue, IfOk, OnOk, MatchOption, Some, None};
+ghost use Rattle.std.specs.Prelude.{vec_len, slice_get, slice_index};
 ghost use Rattle.heap_formula.specs.Words.{Each};
 ghost use Rattle.heap_formula.specs.Cells.{cell_at};
 ghost use Rattle.model_check.specs.Steps.{target, steps_of as all_steps};
-ghost use Rattle.model_check.specs.ForcedLocals.{local_value, term_value, field_of as cell_field, target_of, Sets, Follows, Passes, AreForced, Evaluates};
+ghost use Rattle.model_check.specs.ForcedLocals.{local_value, term_value, field_of as cell_field, target_of, Sets};
+ghost use Rattle.model_check.specs.ForcedLocals.{Follows, Passes, AreForced, Evaluates};
 ghost use Rattle.heap_formula.specs.Values.{Stack, value, values};
 ghost use Rattle.heap_formula.specs.Meaning.{PureHolds};
 ghost use Rattle.model_check.specs.Constructive.{IsConstructive, CellFits, Fits, IsOnly};
 ghost use Rattle.model_check.specs.ForcedLocals.{or_zero, stack_of};
 
-use crate::known::{Step, steps_of};
-use cyc_memory::OutOfMemory;
+use crate::known::{ValueStep, steps_of};
+use cyc_basics::memory::OutOfMemory;
 use goto_lang::Cells;
 use heap_formula::{Heap, Pure, Spatial, Term};
 use std::alloc::Global;
@@ -77,15 +79,15 @@ enum Forced {
     Absent,
 }
 
-fn target_value(stack: &[u64], cells: &Cells, locals: &[Local], step: &Step) -> Forced
+fn target_value(stack: &[u64], cells: &Cells, locals: &[Local], step: &ValueStep) -> Forced
     ensures { result ≡ target_of cells.now stack.now locals.now step.now }
 {
     match step {
-        Step::Same(t, _) => match value_of_term(stack, locals, *t) {
+        ValueStep::Same(t, _) => match value_of_term(stack, locals, *t) {
             None => Forced::Unknown,
             Some(value) => Forced::Value(value),
         },
-        Step::Field(t, k, _) => match value_of_term(stack, locals, *t) {
+        ValueStep::Field(t, k, _) => match value_of_term(stack, locals, *t) {
             None => Forced::Unknown,
             Some(address) => match field_at(cells, address, *k) {
                 None => Forced::Absent,
@@ -95,12 +97,12 @@ fn target_value(stack: &[u64], cells: &Cells, locals: &[Local], step: &Step) -> 
     }
 }
 
-fn target_term(step: &Step) -> Term
+fn target_term(step: &ValueStep) -> Term
     ensures { result ≡ target step.now }
 {
     match step {
-        Step::Same(_, u) => *u,
-        Step::Field(_, _, u) => *u,
+        ValueStep::Same(_, u) => *u,
+        ValueStep::Field(_, _, u) => *u,
     }
 }
 
@@ -131,7 +133,7 @@ fn follow(
     stack: &[u64],
     cells: &Cells,
     locals: &mut Vec<Local>,
-    step: &Step,
+    step: &ValueStep,
 ) -> Result<bool, OutOfMemory>
     ensures { OnOk result ((b : Bool) → result ≡ Ok b
         → Follows cells.now stack.now step.now locals.old.items locals.new.items b) }
@@ -151,7 +153,7 @@ fn follow_all(
     stack: &[u64],
     cells: &Cells,
     locals: &mut Vec<Local>,
-    steps: &[Step],
+    steps: &[ValueStep],
 ) -> Result<bool, OutOfMemory>
     requires { AreForced cells.now stack.now steps.now locals.old.items }
     ensures { OnOk result ((b : Bool) → result ≡ Ok b
@@ -170,7 +172,7 @@ fn evaluate(
     alloc: Global,
     stack: &[u64],
     cells: &Cells,
-    steps: &[Step],
+    steps: &[ValueStep],
 ) -> Result<Option<Vec<Local>>, OutOfMemory>
     ensures { IfOk result (Evaluates cells.now stack.now steps.now) }
 {

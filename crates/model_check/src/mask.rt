@@ -1,9 +1,10 @@
 // Parts of the heap as sets of bits: a cell's bit is its place among the addresses.
-ghost use Rattle.std.specs.Prelude.{◌≡◌, ◌↔◌, ◌^◌, IsTrue, IfOk, slice_index, length, max, replicate, ◌++◌, ◌∷◌, [], ◌/◌, ◌%◌};
+ghost use Rattle.std.specs.Prelude.{◌≡◌, ◌↔◌, ◌^◌, IsTrue, IfOk, slice_index, length, max, replicate, ◌++◌, ◌∷◌, []};
+ghost use Rattle.std.specs.Prelude.{◌/◌, ◌%◌};
 ghost use Rattle.std.specs.Int.Bits.{bit_and, bit_or};
 ghost use Rattle.model_check.specs.WideMasks.{number, AreApart, or_words};
 
-use cyc_memory::OutOfMemory;
+use cyc_basics::memory::OutOfMemory;
 use std::alloc::{AllocError, Global};
 use std::hash::{Hash, Hasher};
 use std::marker::Model;

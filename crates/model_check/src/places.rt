@@ -5,8 +5,8 @@ ghost use Rattle.model_check.specs.Constructive.{IsConstructive, AreConstructive
 ghost use Rattle.model_check.specs.FirstPlaces.{IsFirstBad, IsFirstBadCase, IsFirstPlace};
 
 use crate::known::is_constructive;
-use cyc_limits::MOST_PREDICATES;
-use cyc_memory::OutOfMemory;
+use cyc_basics::limits::MOST_PREDICATES;
+use cyc_basics::memory::OutOfMemory;
 use heap_formula::{Def, Heap};
 use pred_defs::Defs;
 use std::alloc::Global;

@@ -2,7 +2,7 @@
 ghost use Rattle.std.specs.Prelude.{◌≡◌, ◌≤◌, length, IfOk, MatchOption, slice_get};
 ghost use Rattle.model_check.specs.Grounding.{Asked};
 
-use cyc_memory::OutOfMemory;
+use cyc_basics::memory::OutOfMemory;
 use indexmap::IndexSet;
 use std::alloc::AllocError;
 use std::hash::{Hash, Hasher};

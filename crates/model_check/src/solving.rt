@@ -1,16 +1,18 @@
 // The least table of masks that rules give.
 ghost use Rattle.std.specs.List.{sum_by};
-ghost use Rattle.std.specs.Prelude.{◌≡◌, ℕ, ◌+◌, ◌<◌, ◌≤◌, ◌↔◌, Some, IfOk, OnOk, IsTrue, vec_len, slice_get, slice_index, slice_set, replicate, length, nat_eq, if◌then◌else◌};
+ghost use Rattle.std.specs.Prelude.{◌≡◌, ℕ, ◌+◌, ◌<◌, ◌≤◌, ◌↔◌, Some, IfOk, OnOk, IsTrue, vec_len, slice_get};
+ghost use Rattle.std.specs.Prelude.{slice_index, slice_set, replicate, length, nat_eq, if◌then◌else◌};
 ghost use Rattle.heap_formula.specs.Words.{Each};
 ghost use Rattle.model_check.specs.WideMasks.{number, HoldsMask};
 ghost use Rattle.model_check.specs.Ground.{IsSolved};
 ghost use Rattle.model_check.specs.declared.ground.GroundRule.{GroundRule};
-ghost use Rattle.model_check.specs.Tables.{HasMask, AddsMask, AddsRule, IsDerived, IsClosed, AreClosed, HeadsFit, IsOld, IsFresh, AreSettled, AreBefore, AppliesRule};
+ghost use Rattle.model_check.specs.Tables.{HasMask, AddsMask, AddsRule, IsDerived, IsClosed, AreClosed, HeadsFit};
+ghost use Rattle.model_check.specs.Tables.{IsOld, IsFresh, AreSettled, AreBefore, AppliesRule};
 
 use crate::ground::{GroundRule, Piece};
 use crate::mask::Mask;
 use crate::unions::{Row, unions};
-use cyc_memory::OutOfMemory;
+use cyc_basics::memory::OutOfMemory;
 use std::alloc::Global;
 
 /// Adds a mask to a question's row, and notes it if it is new: the log grows as the table does.

@@ -6,7 +6,7 @@ ghost use Rattle.model_check.specs.Tables.{Added, JoinsOne, JoinsSome, HasMask, 
 
 use crate::ground::Piece;
 use crate::mask::Mask;
-use cyc_memory::OutOfMemory;
+use cyc_basics::memory::OutOfMemory;
 use indexmap::IndexSet;
 use std::alloc::Global;
 use std::marker::Model;

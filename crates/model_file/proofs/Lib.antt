@@ -7,3 +7,6 @@ mod EntryCells
 mod Moved
 mod ModelsAgain
 pub mod Readings
+pub mod ModelLaws
+pub mod ModelEnds
+mod ModelWriting

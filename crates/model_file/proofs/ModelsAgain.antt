@@ -12,18 +12,20 @@ use Rattle.heap_syntax.specs.Grammar as shared
 use Rattle.heap_reader.specs.Flaws.{or_later}
 use Rattle.heap_reader.specs.Values.{heap_value}
 use Rattle.heap_reader.proofs.NoFlaw.{none_later, positive}
-use Rattle.pred_syntax.specs.Grammar.{definition}
-use Rattle.pred_reader.specs.declared.scope.Scope.TheVariants.{Outside}
-use Rattle.pred_reader.specs.Spans.{definition_span}
-use Rattle.pred_reader.specs.Flaws.{headings, definition_flaw}
-use Rattle.pred_reader.specs.Values.{term_value, definition_value}
-use Rattle.pred_reader.specs.Written.{definition_tree}
-use Rattle.pred_reader.proofs.TreesAgain.{listed_again, found_name, heap_again, definition_again}
-use Rattle.pred_reader.proofs.ValuesAgain.{each_known, found_place, heap_known, definition_known, definitions_fit}
-use Rattle.model_syntax.specs.Trees.{Cell, Model}
-use Rattle.model_syntax.specs.Grammar.{numbers, values, cell, cells1, cells, question, state, body, model, from_cell, to_cell}
+use Rattle.heap_syntax.specs.DefinitionGrammar.{definition}
+use Rattle.heap_reader.specs.declared.definitions.scope.Scope.TheVariants.{Outside}
+use Rattle.heap_reader.specs.DefinitionSpans.{definition_span}
+use Rattle.heap_reader.specs.DefinitionFlaws.{headings, definition_flaw}
+use Rattle.heap_reader.specs.DefinitionValues.{term_value, definition_value}
+use Rattle.heap_reader.specs.Written.{definition_tree}
+use Rattle.heap_reader.proofs.TreesAgain.{listed_again, found_name, heap_again, definition_again}
+use Rattle.heap_reader.proofs.ValuesAgain.{each_known, found_place, heap_known, definition_known, definitions_fit}
+use Rattle.model_file.specs.Trees.{Cell, Model}
+use Rattle.model_file.specs.Grammar.{numbers, values, cell, cells1, cells, question, state, body, model, from_cell}
+use Rattle.model_file.specs.Grammar.{to_cell}
 use Rattle.model_file.specs.declared.file.Model.{Model as ModelValue}
-use Rattle.model_file.specs.Flaws.{stack_flaw, cells_flaw, first_value, first_cell, first_atom, definitions_flaw, ask_flaw, model_flaw}
+use Rattle.model_file.specs.Flaws.{stack_flaw, cells_flaw, first_value, first_cell, first_atom, definitions_flaw}
+use Rattle.model_file.specs.Flaws.{ask_flaw, model_flaw}
 use Rattle.model_file.specs.Values.{cells_value}
 use Rattle.model_file.specs.Small.{IsSmallCell, IsShortNumber, IsShortCell}
 use Rattle.model_file.specs.Written.{cells_tree, tree_of}
@@ -52,19 +54,27 @@ unfolding cells cells1 shared.listed
 all_fit [] f = (tt, tt)
 all_fit (c ∷ cs) f = (tt, (omega arith, (f.0, fit_behind cs f.1)))
 
-each_tree : (Q : Cell → Type 0) (es : List (ℕ × List ℕ)) → Each (λ (e : ℕ × List ℕ). Q (to_cell e)) es → Each Q (map to_cell es)
+each_tree : (Q : Cell → Type 0) (es : List (ℕ × List ℕ)) → Each (λ (e : ℕ × List ℕ). Q (to_cell e)) es
+    → Each Q (map to_cell es)
 each_tree Q [] all = tt
 each_tree Q (e ∷ es) all = (all.0, each_tree Q es all.1)
 
 -- the cells of a heap fit where those that it was made of do
 sorted_fit : (cs : List Cell) → cells.fits cs → cells.fits (cells_tree (cells_value cs))
 sorted_fit cs f =
-    all_fit (cells_tree (cells_value cs)) (each_tree cell.fits (entries (cells_value cs)) (each_entry (λ (e : ℕ × List ℕ). cell.fits (to_cell e)) (map from_cell cs) (of_entries cell.fits cs (each_fits cs f))))
+    all_fit (cells_tree (cells_value cs)) (each_tree cell.fits (entries (cells_value cs))
+    (each_entry (λ (e : ℕ × List ℕ). cell.fits (to_cell e)) (map from_cell cs)
+    (of_entries cell.fits cs (each_fits cs f))))
 
 -- ---- the tree with its cells in order
 
 abbrev pub sorted : Model → Model
-sorted m = record { definitions = m.definitions; stack = m.stack; cells = cells_tree (cells_value m.cells); ask = m.ask }
+sorted m = record {
+  definitions = m.definitions;
+  stack = m.stack;
+  cells = cells_tree (cells_value m.cells);
+  ask = m.ask;
+}
 
 pub sorted_fits : (m : Model) → model.fits m → model.fits (sorted m)
 unfolding model body state
@@ -75,18 +85,24 @@ sorted_flawless m e =
     let parts = faultless m e in
     let fine = fine_cells (first_cell m) m.cells parts.cells in
     let s = sorted m in
-    none_later (definitions_flaw s) (or_later (stack_flaw (first_value s) s.stack) (or_later (cells_flaw (first_cell s) s.cells) (ask_flaw s))) parts.definitions
-    (none_later (stack_flaw (first_value s) s.stack) (or_later (cells_flaw (first_cell s) s.cells) (ask_flaw s)) parts.stack
-    (none_later (cells_flaw (first_cell s) s.cells) (ask_flaw s) (sorted_right m.cells (first_cell m) fine.0 fine.1) (heap_moved 32 (headings m.definitions) (first_atom m) (first_atom s) m.ask parts.ask)))
+    none_later (definitions_flaw s) (or_later (stack_flaw (first_value s) s.stack)
+    (or_later (cells_flaw (first_cell s) s.cells) (ask_flaw s))) parts.definitions
+    (none_later (stack_flaw (first_value s) s.stack) (or_later (cells_flaw (first_cell s) s.cells) (ask_flaw s))
+    parts.stack
+    (none_later (cells_flaw (first_cell s) s.cells) (ask_flaw s) (sorted_right m.cells (first_cell m) fine.0 fine.1)
+    (heap_moved 32 (headings m.definitions) (first_atom m) (first_atom s) m.ask parts.ask)))
 
 -- the values of a tree without a flaw have the tree in order
-pub tree_again : (m : Model) → model_flaw m ≡ None → tree_of (map (definition_value (headings m.definitions)) m.definitions) m.stack (cells_value m.cells) (heap_value term_value (headings m.definitions) m.ask) ≡ sorted m
+pub tree_again : (m : Model) → model_flaw m ≡ None
+    → tree_of (map (definition_value (headings m.definitions)) m.definitions) m.stack (cells_value m.cells)
+    (heap_value term_value (headings m.definitions) m.ask) ≡ sorted m
 tree_again m e =
     let ds = m.definitions in
     let hs = headings ds in
     let vs = map (definition_value hs) ds in
     let parts = faultless m e in
-    let definitions = listed_again (definition_flaw 32 hs) definition_span (definition_value hs) (definition_tree vs) (definition_again 32 hs vs (found_name hs ds)) 0 4 ds parts.definitions in
+    let definitions = listed_again (definition_flaw 32 hs) definition_span (definition_value hs) (definition_tree vs)
+    (definition_again 32 hs vs (found_name hs ds)) 0 4 ds parts.definitions in
     let ask = heap_again 32 hs vs (found_name hs ds) Outside (first_atom m) m.ask parts.ask in
     λ i. record { definitions = definitions i; stack = m.stack; cells = cells_tree (cells_value m.cells); ask = ask i }
 
@@ -97,7 +113,8 @@ entries_again [] = refl
 entries_again (e ∷ es) = ap (λ fs. e ∷ fs) (entries_again es)
 
 heap_is : (h : Cells) → from_entries {R = nat_cmp} (entries h) ≡ h
-heap_is h = same_map nat_cmp_total nat_cmp-IsAntisymmetric _ _ (λ q. get-from_entries nat_cmp_total (entries h) q ∙ sym (get-entries h q))
+heap_is h = same_map nat_cmp_total nat_cmp-IsAntisymmetric _ _
+    (λ q. get-from_entries nat_cmp_total (entries h) q ∙ sym (get-entries h q))
 
 pub model_known : (m : ModelValue) → IsModelOf (tree_of m.defs.list m.stack m.heap m.ask) m
 unfolding model body question
@@ -109,7 +126,8 @@ model_known m =
     let placed = found_place 32 ds parts.definitions in
     record {
       most = m.limit;
-      definitions = sym (each_known (definition_tree ds) (definition_value hs) definition.fits (definition_known ds hs placed) ds (definitions_fit tree.definitions m.fits.1.0));
+      definitions = sym (each_known (definition_tree ds) (definition_value hs) definition.fits
+          (definition_known ds hs placed) ds (definitions_fit tree.definitions m.fits.1.0));
       stack = refl;
       heap = sym (ap from_entries (entries_again (entries m.heap)) ∙ heap_is m.heap);
       ask = sym (heap_known ds hs placed false m.ask m.fits.1.1.1);
@@ -117,7 +135,8 @@ model_known m =
 
 -- ---- numbers and cells of a tree that fits
 
-short_behind : (behind : Class (Unit {0})) (ns : List ℕ) → fits_many (after comma (one number)) ns → Each IsShortNumber ns
+short_behind : (behind : Class (Unit {0})) (ns : List ℕ) → fits_many (after comma (one number)) ns
+    → Each IsShortNumber ns
 short_behind behind [] f = tt
 short_behind behind (n ∷ ns) f = (f.0, short_behind behind ns f.1)
 
@@ -150,7 +169,10 @@ some_field c f = f.1.1.0
 
 each_small : (cs : List Cell) → Each cell.fits cs → Each IsFine cs → Each IsSmallCell cs
 each_small [] f g = tt
-each_small (c ∷ cs) f g = (record { positive = positive c.address g.0.positive; some = some_field c f.0 }, each_small cs f.1 g.1)
+each_small (c ∷ cs) f g = (
+  record { positive = positive c.address g.0.positive; some = some_field c f.0 },
+  each_small cs f.1 g.1,
+)
 
 pub model_small : (m : Model) → model.fits m → model_flaw m ≡ None → Each IsSmallCell m.cells
 unfolding model body state

@@ -8,9 +8,10 @@ use Rattle.cyc_lex.specs.declared.fault.IllFault.TheVariants.{Address}
 use Rattle.cyc_lex.specs.declared.fault.What.TheVariants.{Arguments, Cells}
 use Rattle.heap_reader.specs.Flaws.{over_if, or_later}
 use Rattle.heap_reader.proofs.NoFlaw.{neither, not_over, not_ill, each_of, few_all}
-use Rattle.model_syntax.specs.Trees.{Cell, Model}
+use Rattle.model_file.specs.Trees.{Cell, Model}
 use Rattle.model_file.specs.Spans.{cell_span}
-use Rattle.model_file.specs.Flaws.{address_of, stack_flaw, fields_flaw, address_flaw, cell_flaw, cells_flaw, first_value, first_cell, definitions_flaw, ask_flaw, model_flaw}
+use Rattle.model_file.specs.Flaws.{address_of, stack_flaw, fields_flaw, address_flaw, cell_flaw, cells_flaw}
+use Rattle.model_file.specs.Flaws.{first_value, first_cell, definitions_flaw, ask_flaw, model_flaw}
 
 -- no part has a flaw
 pub record Faultless (m : Model) : Type 0 where

@@ -6,10 +6,10 @@ use Rattle.cyc_lex.specs.Spacing.{text_of}
 use Rattle.cyc_lex.proofs.Lexemes.{lexemes-read}
 use Rattle.heap_reader.specs.Reading.{Spells}
 use Rattle.heap_reader.proofs.Readings.{again, ok_tokens, one_value}
-use Rattle.model_syntax.specs.Trees as trees
-use Rattle.model_syntax.specs.Grammar.{body, model}
-use Rattle.model_syntax.proofs.ModelLaws.{model-law}
-use Rattle.model_syntax.proofs.ModelEnds.{body-inner}
+use Rattle.model_file.specs.Trees as trees
+use Rattle.model_file.specs.Grammar.{body, model}
+use Rattle.model_file.proofs.ModelLaws.{model-law}
+use Rattle.model_file.proofs.ModelEnds.{body-inner}
 use Rattle.model_file.specs.declared.file.Model.{Model}
 use Rattle.model_file.specs.Written.{tree_of, text_of_model}
 use Rattle.model_file.specs.Reading.{AreSame, IsModelOf, IsRead, IsReadAgain, Reads, model_files}
@@ -42,12 +42,16 @@ text_is_read m =
     (has.0, has.1, (t, (m.fits, has.2), m.flawless, model_known m))
 
 -- what is written of a model, if anything, spells it
-pub written_is_read : {V E : Type 0} (items : V → List ℕ) (m : Model) (t : trees.Model) (r : Result V E) → t ≡ tree_of m.defs.list m.stack m.heap m.ask → IfOk r (λ v. items v ≡ text_of (body.words t)) → IfOk r (λ v. IsRead (items v) (Ok m))
+pub written_is_read : {V E : Type 0} (items : V → List ℕ) (m : Model) (t : trees.Model) (r : Result V E)
+    → t ≡ tree_of m.defs.list m.stack m.heap m.ask → IfOk r (λ v. items v ≡ text_of (body.words t))
+    → IfOk r (λ v. IsRead (items v) (Ok m))
 written_is_read items m t (Ok v) same h =
     subst (λ bs. IsRead bs (Ok m)) (sym (h ∙ ap (λ u. text_of (body.words u)) same)) (text_is_read m)
 written_is_read items m t (Err e) same h = tt
 
 -- what is read of a model's text is that model
-pub text_read_again : (m : Model) (bytes : List ℕ) (answer : Result Model ReadFault) → bytes ≡ text_of_model m.defs.list m.stack m.heap m.ask → Reads bytes answer → IsReadAgain m answer
+pub text_read_again : (m : Model) (bytes : List ℕ) (answer : Result Model ReadFault)
+    → bytes ≡ text_of_model m.defs.list m.stack m.heap m.ask → Reads bytes answer → IsReadAgain m answer
 text_read_again m bytes answer same =
-    again model_files model-law AreSame one_model m bytes answer (subst (λ bs. IsRead bs (Ok m)) (sym same) (text_is_read m))
+    again model_files model-law AreSame one_model m bytes answer
+    (subst (λ bs. IsRead bs (Ok m)) (sym same) (text_is_read m))

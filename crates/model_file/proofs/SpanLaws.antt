@@ -5,11 +5,12 @@ use Rattle.cyc_grammar.specs.Classes.{number, the_end}
 use Rattle.heap_syntax.specs.Words.{comma, semicolon, closing, last_word}
 use Rattle.heap_reader.specs.Spans.{total, heap_span}
 use Rattle.heap_reader.proofs.SpanLaws.{listed_words, alone}
-use Rattle.pred_syntax.specs.Grammar.{terms, heap, definition, definitions}
-use Rattle.pred_reader.specs.Spans.{term_span, definition_span}
-use Rattle.pred_reader.proofs.SpanLaws.{heap_words, definition_words}
-use Rattle.model_syntax.specs.Trees.{Cell, Model}
-use Rattle.model_syntax.specs.Grammar.{heap_word, ask_word, numbers, values, cell, some_cell, cells1, cells, question, state, body, model}
+use Rattle.heap_syntax.specs.DefinitionGrammar.{terms, heap, definition, definitions}
+use Rattle.heap_reader.specs.DefinitionSpans.{term_span, definition_span}
+use Rattle.heap_reader.proofs.DefinitionSpanLaws.{heap_words, definition_words}
+use Rattle.model_file.specs.Trees.{Cell, Model}
+use Rattle.model_file.specs.Grammar.{heap_word, ask_word, numbers, values, cell, some_cell, cells1, cells, question}
+use Rattle.model_file.specs.Grammar.{state, body, model}
 use Rattle.model_file.specs.Spans.{numbers_span, values_span, cell_span, cells_span}
 use Rattle.model_file.specs.Flaws.{first_atom}
 
@@ -17,7 +18,8 @@ twice : (ns : List ℕ) → total (λ n. 2) ns ≡ numbers_span ns
 twice [] = refl
 twice (n ∷ ns) = let r = twice ns in omega arith
 
-numbers_words : (behind : Class (Unit {0})) (ns : List ℕ) → (numbers behind).fits ns → length ((numbers behind).words ns) ≡ numbers_span ns
+numbers_words : (behind : Class (Unit {0})) (ns : List ℕ) → (numbers behind).fits ns
+    → length ((numbers behind).words ns) ≡ numbers_span ns
 unfolding numbers
 numbers_words behind ns f = listed_words 0 comma behind (one number) (λ n. 2) (λ n g. refl) ns f ∙ twice ns
 
@@ -35,7 +37,8 @@ unfolding cells cells1
 cells_words [] f = refl
 cells_words (c ∷ cs) f = listed_words some_cell comma semicolon cell cell_span cell_words (c ∷ cs) f.1
 
--- the words of a model file: the header, the definitions, the stack, the heap, the formula, the last statement, and the end
+-- the words of a model file: the header, the definitions, the stack, the heap, the formula, the last statement, and the
+-- end
 pub model_words : (m : Model) → model.fits m → length (model.words m) ≡ first_atom m + heap_span term_span m.ask + 3
 unfolding model body state question definitions
 model_words m fit =

@@ -7,19 +7,22 @@ use Rattle.cyc_lex.specs.declared.fault.IllFault.TheVariants.{Address}
 use Rattle.cyc_lex.specs.declared.fault.What.TheVariants.{Arguments, Stack, Cells}
 use Rattle.heap_reader.specs.Spans.{total, heap_span}
 use Rattle.heap_reader.specs.Flaws.{over_if, or_later}
-use Rattle.heap_reader.proofs.WithinSpans.{Before, first_before, over_before, ill_before, later, listed_before, listed_or_before}
-use Rattle.pred_reader.specs.Spans.{term_span, definition_span}
-use Rattle.pred_reader.specs.Flaws.{headings, definition_flaw}
-use Rattle.pred_reader.proofs.WithinSpans.{outside_before, definition_before}
-use Rattle.model_syntax.specs.Trees.{Cell, Model}
+use Rattle.heap_reader.proofs.WithinSpans.{Before, first_before, over_before, ill_before, later, listed_before}
+use Rattle.heap_reader.proofs.WithinSpans.{listed_or_before}
+use Rattle.heap_reader.specs.DefinitionSpans.{term_span, definition_span}
+use Rattle.heap_reader.specs.DefinitionFlaws.{headings, definition_flaw}
+use Rattle.heap_reader.proofs.DefinitionWithinSpans.{outside_before, definition_before}
+use Rattle.model_file.specs.Trees.{Cell, Model}
 use Rattle.model_file.specs.Spans.{numbers_span, values_span, cell_span, cells_span}
-use Rattle.model_file.specs.Flaws.{address_of, stack_flaw, fields_flaw, address_flaw, cell_flaw, cells_flaw, first_value, first_cell, first_atom, definitions_flaw, ask_flaw, model_flaw}
+use Rattle.model_file.specs.Flaws.{address_of, stack_flaw, fields_flaw, address_flaw, cell_flaw, cells_flaw}
+use Rattle.model_file.specs.Flaws.{first_value, first_cell, first_atom, definitions_flaw, ask_flaw, model_flaw}
 
 stack_before : (k : ℕ) (ns : List ℕ) → Before (stack_flaw k ns) (k + values_span ns)
 stack_before k [] = tt
 stack_before k (n ∷ ns) = by_test (nat_le 65536 (length (n ∷ ns))) refl
   where
-    by_test : (b : Bool) → nat_le 65536 (length (n ∷ ns)) ≡ b → Before (over_if b Stack (k + 131070)) (k + values_span (n ∷ ns))
+    by_test : (b : Bool) → nat_le 65536 (length (n ∷ ns)) ≡ b
+        → Before (over_if b Stack (k + 131070)) (k + values_span (n ∷ ns))
     by_test true e = let many = leb-true 65536 (length (n ∷ ns)) e in omega arith
     by_test false e = tt
 
@@ -36,7 +39,10 @@ cell_before all n k c =
     let before = map address_of (take n all) in
     let fields = fields_flaw (k + 3) c.fields in
     let over = over_if (nat_le 16 n) Cells k in
-    first_before (address_flaw before k c.address) (or_later over fields) m (ill_before (nat_eq c.address 0 || list_any (nat_eq c.address) before) Address k m (omega arith)) (first_before over fields m (over_before (nat_le 16 n) Cells k m (omega arith)) (later fields (k + 3 + numbers_span c.fields) m (omega arith) (fields_before (k + 3) c.fields)))
+    first_before (address_flaw before k c.address) (or_later over fields) m
+    (ill_before (nat_eq c.address 0 || list_any (nat_eq c.address) before) Address k m (omega arith))
+    (first_before over fields m (over_before (nat_le 16 n) Cells k m (omega arith))
+    (later fields (k + 3 + numbers_span c.fields) m (omega arith) (fields_before (k + 3) c.fields)))
 
 -- a model file's flaw stands at a token before the last words
 pub model_before : (m : Model) → Before (model_flaw m) (first_atom m + heap_span term_span m.ask)
@@ -45,7 +51,11 @@ model_before m =
     let hs = headings m.definitions in
     let stack = stack_flaw (first_value m) m.stack in
     let cells = cells_flaw (first_cell m) m.cells in
-    first_before (definitions_flaw m) (or_later stack (or_later cells (ask_flaw m))) end (later (definitions_flaw m) (4 + total definition_span m.definitions) end (omega arith) (listed_before (definition_flaw 32 hs) definition_span (definition_before 32 hs) 0 4 m.definitions))
-    (first_before stack (or_later cells (ask_flaw m)) end (later stack (first_value m + values_span m.stack) end (omega arith) (stack_before (first_value m) m.stack))
-    (first_before cells (ask_flaw m) end (later cells (first_cell m + cells_span m.cells) end (omega arith) (listed_or_before (cell_flaw m.cells) cell_span 1 (cell_before m.cells) (first_cell m) m.cells))
+    first_before (definitions_flaw m) (or_later stack (or_later cells (ask_flaw m))) end
+    (later (definitions_flaw m) (4 + total definition_span m.definitions) end (omega arith)
+    (listed_before (definition_flaw 32 hs) definition_span (definition_before 32 hs) 0 4 m.definitions))
+    (first_before stack (or_later cells (ask_flaw m)) end
+    (later stack (first_value m + values_span m.stack) end (omega arith) (stack_before (first_value m) m.stack))
+    (first_before cells (ask_flaw m) end (later cells (first_cell m + cells_span m.cells) end (omega arith)
+    (listed_or_before (cell_flaw m.cells) cell_span 1 (cell_before m.cells) (first_cell m) m.cells))
     (outside_before 32 hs (first_atom m) m.ask)))

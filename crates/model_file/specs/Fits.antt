@@ -4,9 +4,9 @@ use Rattle.std.specs.Coded.{×_prop, Unit-prop, le_prop}
 use Rattle.cyc_grammar.specs.Syntax.{Class, one}
 use Rattle.cyc_grammar.specs.Classes.{number}
 use Rattle.heap_syntax.specs.Words.{comma, semicolon, closing}
-use Rattle.pred_syntax.specs.Fits.{HasOneFit, many-fit, listed-fit, heap-fit, definition-fit}
-use Rattle.pred_syntax.specs.Grammar.{definition, definitions}
-use Rattle.model_syntax.specs.Grammar.{numbers, values, cell, some_cell, cells1, cells, question, state, body, model}
+use Rattle.heap_syntax.specs.Fits.{HasOneFit, many-fit, listed-fit, heap-fit, definition-fit}
+use Rattle.heap_syntax.specs.DefinitionGrammar.{definition, definitions}
+use Rattle.model_file.specs.Grammar.{numbers, values, cell, some_cell, cells1, cells, question, state, body, model}
 
 numbers-fit : (behind : Class (Unit {0})) → HasOneFit (numbers behind)
 unfolding numbers
@@ -29,4 +29,5 @@ cells-fit (c ∷ cs) = ×_prop Unit-prop (listed-fit some_cell comma semicolon c
 pub model-fit : HasOneFit model
 unfolding model body state question definitions
 model-fit m =
-    ×_prop Unit-prop (×_prop (many-fit definition definition-fit m.definitions) (×_prop (×_prop (values-fit m.stack) (cells-fit m.cells)) (heap-fit false m.ask)))
+    ×_prop Unit-prop (×_prop (many-fit definition definition-fit m.definitions)
+    (×_prop (×_prop (values-fit m.stack) (cells-fit m.cells)) (heap-fit false m.ask)))

@@ -1,15 +1,15 @@
 -- The first flaw of a model file that the grammar has: what is ill-formed or passes a limit, and at which token.
 use Rattle.std.specs.Prelude.{ℕ, ◌+◌, ◌||◌, nat_eq, nat_le, List, length, map, take}
 use Rattle.std.specs.List.{list_any}
-use Rattle.cyc_limits.specs.declared.TheConstants.{MOST_CELLS, MOST_SPATIAL}
+use Rattle.cyc_basics.specs.declared.limits.TheConstants.{MOST_CELLS, MOST_SPATIAL}
 use Rattle.cyc_lex.specs.declared.fault.IllFault.TheVariants.{Address}
 use Rattle.cyc_lex.specs.declared.fault.What.TheVariants.{Arguments, Stack, Cells}
 use Rattle.heap_reader.specs.Spans.{total}
 use Rattle.heap_reader.specs.Flaws.{Found, ill_if, over_if, or_later, listed_flaw, heap_flaw}
-use Rattle.pred_reader.specs.declared.scope.Scope.TheVariants.{Outside}
-use Rattle.pred_reader.specs.Spans.{term_span, definition_span}
-use Rattle.pred_reader.specs.Flaws.{headings, term_flaw, definition_flaw}
-use Rattle.model_syntax.specs.Trees.{Cell, Model}
+use Rattle.heap_reader.specs.declared.definitions.scope.Scope.TheVariants.{Outside}
+use Rattle.heap_reader.specs.DefinitionSpans.{term_span, definition_span}
+use Rattle.heap_reader.specs.DefinitionFlaws.{headings, term_flaw, definition_flaw}
+use Rattle.model_file.specs.Trees.{Cell, Model}
 use Rattle.model_file.specs.Spans.{values_span, cell_span, cells_span}
 
 -- ---- each part begins at token k
@@ -32,7 +32,8 @@ address_of c = c.address
 -- the cell before which n of all stand: a positive address that no cell before has, at most sixteen cells
 abbrev pub cell_flaw : List Cell → ℕ → ℕ → Cell → Found
 cell_flaw all n k c =
-    or_later (address_flaw (map address_of (take n all)) k c.address) (or_later (over_if (nat_le MOST_CELLS n) Cells k) (fields_flaw (k + 3) c.fields))
+    or_later (address_flaw (map address_of (take n all)) k c.address)
+    (or_later (over_if (nat_le MOST_CELLS n) Cells k) (fields_flaw (k + 3) c.fields))
 
 abbrev pub cells_flaw : ℕ → List Cell → Found
 cells_flaw k cs = listed_flaw (cell_flaw cs) cell_span 0 k cs
@@ -50,7 +51,8 @@ abbrev pub first_atom : Model → ℕ
 first_atom m = first_cell m + cells_span m.cells + 1
 
 abbrev pub definitions_flaw : Model → Found
-definitions_flaw m = listed_flaw (definition_flaw MOST_SPATIAL (headings m.definitions)) definition_span 0 4 m.definitions
+definitions_flaw m = listed_flaw (definition_flaw MOST_SPATIAL (headings m.definitions))
+    definition_span 0 4 m.definitions
 
 abbrev pub ask_flaw : Model → Found
 ask_flaw m = heap_flaw (term_flaw Outside) term_span MOST_SPATIAL (headings m.definitions) (first_atom m) m.ask

@@ -5,3 +5,5 @@ pub mod Small
 pub mod Fits
 pub mod Written
 pub mod Reading
+pub mod Trees
+pub mod Grammar

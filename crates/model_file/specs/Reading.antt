@@ -1,14 +1,14 @@
 -- What reading a model file answers.
 use Rattle.std.specs.Prelude.{◌≡◌, ℕ, List, map, Result}
-use Rattle.cyc_limits.specs.declared.TheConstants.{MOST_SPATIAL}
+use Rattle.cyc_basics.specs.declared.limits.TheConstants.{MOST_SPATIAL}
 use Rattle.cyc_lex.specs.declared.fault.ReadFault.{ReadFault}
 use Rattle.cyc_lex.specs.Placed.{Placed}
 use Rattle.heap_reader.specs.Reading as reading
 use Rattle.heap_reader.specs.Values.{heap_value}
-use Rattle.pred_reader.specs.Flaws.{headings}
-use Rattle.pred_reader.specs.Values.{term_value, definition_value}
-use Rattle.model_syntax.specs.Trees as trees
-use Rattle.model_syntax.specs.Grammar.{model}
+use Rattle.heap_reader.specs.DefinitionFlaws.{headings}
+use Rattle.heap_reader.specs.DefinitionValues.{term_value, definition_value}
+use Rattle.model_file.specs.Trees as trees
+use Rattle.model_file.specs.Grammar.{model}
 use Rattle.model_file.specs.declared.file.Model.{Model}
 use Rattle.model_file.specs.Flaws.{model_flaw}
 use Rattle.model_file.specs.Values.{cells_value}

@@ -1,7 +1,7 @@
 -- Cells that fit the values' types.
 use Rattle.std.specs.Prelude.{ℕ, ◌<◌, ◌^◌, length}
 use Rattle.heap_formula.specs.Words.{Each}
-use Rattle.model_syntax.specs.Trees.{Cell}
+use Rattle.model_file.specs.Trees.{Cell}
 
 -- a cell of a heap: a positive address and a field at least
 pub record IsSmallCell (c : Cell) : Type 0 where

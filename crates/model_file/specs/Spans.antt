@@ -1,7 +1,7 @@
 -- How many tokens the parts of a model file have, the one token after a part counted in.
 use Rattle.std.specs.Prelude.{ℕ, ◌+◌, ◌*◌, List, [], ◌∷◌, length}
 use Rattle.heap_reader.specs.Spans.{total_or}
-use Rattle.model_syntax.specs.Trees.{Cell}
+use Rattle.model_file.specs.Trees.{Cell}
 
 -- a word stands after each number
 abbrev pub numbers_span : List ℕ → ℕ

@@ -2,8 +2,8 @@
 use Rattle.std.specs.Prelude.{List, map}
 use Rattle.std.specs.FinMap.{from_entries}
 use Rattle.heap_formula.specs.Cells.{Cells}
-use Rattle.model_syntax.specs.Trees.{Cell}
-use Rattle.model_syntax.specs.Grammar.{from_cell}
+use Rattle.model_file.specs.Trees.{Cell}
+use Rattle.model_file.specs.Grammar.{from_cell}
 
 -- the map of the cells
 abbrev pub cells_value : List Cell → Cells

@@ -5,16 +5,21 @@ use Rattle.cyc_lex.specs.Spacing.{text_of}
 use Rattle.heap_formula.specs.Cells.{Cells}
 use Rattle.heap_formula.specs.Definitions.{Definition as DefinitionValue}
 use Rattle.heap_formula.specs.Symbolic.{SymbolicHeap}
-use Rattle.pred_reader.specs.Written.{heap_tree, definition_tree}
-use Rattle.model_syntax.specs.Trees.{Cell, Model}
-use Rattle.model_syntax.specs.Grammar.{body, to_cell}
+use Rattle.heap_reader.specs.Written.{heap_tree, definition_tree}
+use Rattle.model_file.specs.Trees.{Cell, Model}
+use Rattle.model_file.specs.Grammar.{body, to_cell}
 
 -- the cells of a heap, ascending
 abbrev pub cells_tree : Cells → List Cell
 cells_tree h = map to_cell (entries h)
 
 abbrev pub tree_of : List DefinitionValue → List ℕ → Cells → SymbolicHeap → Model
-tree_of ds stack h ask = record { definitions = map (definition_tree ds) ds; stack = stack; cells = cells_tree h; ask = heap_tree ds ask }
+tree_of ds stack h ask = record {
+  definitions = map (definition_tree ds) ds;
+  stack = stack;
+  cells = cells_tree h;
+  ask = heap_tree ds ask;
+}
 
 -- their text
 abbrev pub text_of_model : List DefinitionValue → List ℕ → Cells → SymbolicHeap → List ℕ

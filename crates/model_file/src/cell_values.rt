@@ -1,13 +1,13 @@
 // Stacks and heaps as values, and as numbers and cells of a text.
 ghost use Rattle.std.specs.Prelude.{◌≡◌, ◌<◌, map, IfOk};
 ghost use Rattle.heap_formula.specs.Words.{Each};
-ghost use Rattle.model_syntax.specs.Trees.{cell_of};
+ghost use Rattle.model_file.specs.Trees.{cell_of};
 ghost use Rattle.model_file.specs.Small.{IsSmallCell};
 ghost use Rattle.model_file.specs.Values.{cells_value};
 
-use cyc_memory::OutOfMemory;
+use crate::syntax::CellTree;
+use cyc_basics::memory::OutOfMemory;
 use goto_lang::Cells;
-use model_syntax::CellTree;
 use std::alloc::Global;
 
 /// The same numbers.

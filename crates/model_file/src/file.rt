@@ -1,18 +1,18 @@
 // Models as values.
 ghost use Rattle.std.specs.Prelude.{◌≡◌, None};
-ghost use Rattle.model_syntax.specs.Grammar.{model};
+ghost use Rattle.model_file.specs.Grammar.{model};
 ghost use Rattle.model_file.specs.Flaws.{model_flaw};
 ghost use Rattle.model_file.specs.Fits.{model-fit};
 ghost use Rattle.model_file.specs.Written.{tree_of};
-ghost use Rattle.cyc_limits.specs.declared.TheConstants.{MOST_SPATIAL};
+ghost use Rattle.cyc_basics.specs.declared.limits.TheConstants.{MOST_SPATIAL};
 
 use goto_lang::{Cells, Stack};
 use heap_formula::Heap;
 use pred_defs::Defs;
 
-/// A model file: definitions, a stack, a heap, and a formula of which is asked whether they satisfy it. The value of `$n`
-/// in the formula is entry n of the stack, 0 past its end. The file has a text: its tree, in which the cells ascend, fits
-/// the grammar, and has no flaw.
+/// A model file: definitions, a stack, a heap, and a formula of which is asked whether they satisfy it. The value of
+/// `$n` in the formula is entry n of the stack, 0 past its end. The file has a text: its tree, in which the cells
+/// ascend, fits the grammar, and has no flaw.
 #[derive(Drop)]
 pub struct Model {
     pub defs: Defs,

@@ -1,10 +1,11 @@
-//! Model files: a stack, a heap and the formula that is asked of them. Reading a text, with the exact place of each fault,
-//! and writing one that is read again.
+//! Model files: a stack, a heap and the formula that is asked of them. Reading a text, with the exact place of each
+//! fault, and writing one that is read again.
 #![tactic(auto)]
 
 mod cell_values;
 mod file;
 mod reading;
+pub mod syntax;
 mod trees;
 mod walk;
 mod writing;

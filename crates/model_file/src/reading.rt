@@ -1,23 +1,23 @@
 // Reading a model file: its tokens, its tree, the first flaw of the tree, and its value.
 ghost use Rattle.std.specs.Prelude.{◌≡◌, ◌-◌, ◌<◌, ◌^◌, None, length, map, IfOk};
 ghost use Rattle.cyc_lex.specs.Word.{EndsOnce, word_of};
-ghost use Rattle.pred_reader.specs.Flaws.{headings};
-ghost use Rattle.model_syntax.specs.Grammar.{model};
-ghost use Rattle.model_syntax.specs.Trees.{model_of};
+ghost use Rattle.heap_reader.specs.DefinitionFlaws.{headings};
+ghost use Rattle.model_file.specs.Grammar.{model};
+ghost use Rattle.model_file.specs.Trees.{model_of};
 ghost use Rattle.model_file.specs.Flaws.{model_flaw as first_flaw};
 ghost use Rattle.model_file.specs.Reading.{IsModelOf, ReadsFrom, Reads};
 
 use crate::cell_values::{cells, wide_numbers};
 use crate::file::Model;
+use crate::syntax::{ModelTree, read_tree};
 use crate::walk::model_flaw;
+use cyc_basics::limits::MOST_SPATIAL;
+use cyc_basics::memory::OutOfMemory;
 use cyc_lex::{ReadFault, Tokens, tokens};
-use cyc_limits::MOST_SPATIAL;
-use cyc_memory::OutOfMemory;
 use goto_lang::Stack;
+use heap_reader::definitions::{Scope, definition_values, heads};
 use heap_reader::{Heads, flaw_fault, heap_value};
-use model_syntax::{ModelTree, read_tree};
 use pred_defs::Defs;
-use pred_reader::{Scope, definition_values, heads};
 use std::alloc::Global;
 
 /// The model that a tree without a flaw says.

@@ -2,15 +2,15 @@
 ghost use Rattle.std.specs.Prelude.{◌≡◌, ℕ, List, map, IfOk, Some, IsSome};
 ghost use Rattle.heap_formula.specs.Words.{Each};
 ghost use Rattle.heap_formula.specs.Cells.{cell_at};
-ghost use Rattle.model_syntax.specs.Trees.{cell_of, model_of};
+ghost use Rattle.model_file.specs.Trees.{cell_of, model_of};
 ghost use Rattle.model_file.specs.Small.{IsShortNumber, IsShortCell};
 ghost use Rattle.model_file.specs.Written.{cells_tree, tree_of};
 
 use crate::file::Model;
-use cyc_memory::OutOfMemory;
+use crate::syntax::{CellTree, ModelTree};
+use cyc_basics::memory::OutOfMemory;
 use goto_lang::Cells;
-use model_syntax::{CellTree, ModelTree};
-use pred_reader::{definition_trees, heap_tree};
+use heap_reader::definitions::{definition_trees, heap_tree};
 use std::alloc::Global;
 
 /// The same numbers, each of which fits.

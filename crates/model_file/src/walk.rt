@@ -1,21 +1,22 @@
-// A walk over a model file's tree in the order of its tokens, up to the first flaw. Each function is given the number of
-// the part's first token and gives that of the token after it and the one that follows every part of its kind.
+// A walk over a model file's tree in the order of its tokens, up to the first flaw. Each function is given the number
+// of the part's first token and gives that of the token after it and the one that follows every part of its kind.
 ghost use Rattle.std.specs.Prelude.{◌≡◌, ◌+◌, ◌<◌, ◌≤◌, ◌^◌, ◌||◌, length, map, nat_eq, take};
 ghost use Rattle.std.specs.List.{list_any};
 ghost use Rattle.heap_reader.specs.Spans.{total, heap_span};
 ghost use Rattle.heap_reader.specs.Flaws.{IsName, IsWalk};
-ghost use Rattle.pred_reader.specs.declared.scope.Scope.TheVariants.{Outside};
-ghost use Rattle.pred_reader.specs.Spans.{term_span};
-ghost use Rattle.pred_reader.specs.Flaws.{headings};
-ghost use Rattle.model_syntax.specs.Trees.{cell_of, model_of};
+ghost use Rattle.heap_reader.specs.declared.definitions.scope.Scope.TheVariants.{Outside};
+ghost use Rattle.heap_reader.specs.DefinitionSpans.{term_span};
+ghost use Rattle.heap_reader.specs.DefinitionFlaws.{headings};
+ghost use Rattle.model_file.specs.Trees.{cell_of, model_of};
 ghost use Rattle.model_file.specs.Spans.{numbers_span, values_span, cell_span, cells_span};
-ghost use Rattle.model_file.specs.Flaws.{address_of, stack_flaw, fields_flaw, address_flaw, cell_flaw, cells_flaw, first_value, first_atom, model_flaw as first_flaw, behind_definitions_flaw};
+ghost use Rattle.model_file.specs.Flaws.{address_of, stack_flaw, fields_flaw, address_flaw, cell_flaw, cells_flaw};
+ghost use Rattle.model_file.specs.Flaws.{first_value, first_atom, model_flaw as first_flaw, behind_definitions_flaw};
 
+use crate::syntax::{CellTree, ModelTree};
+use cyc_basics::limits::{MOST_ARGUMENTS, MOST_CELLS, MOST_SPATIAL, MOST_VALUES};
 use cyc_lex::{IllFault, What};
-use cyc_limits::{MOST_ARGUMENTS, MOST_CELLS, MOST_SPATIAL, MOST_VALUES};
+use heap_reader::definitions::{Scope, walk_definitions};
 use heap_reader::{Flaw, Heads, ill, over, walk_heap};
-use model_syntax::{CellTree, ModelTree};
-use pred_reader::{Scope, walk_definitions};
 
 /// The values of the stack and the semicolon.
 fn stack(at: usize, values: &[u32]) -> Result<usize, Flaw>

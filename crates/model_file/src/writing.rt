@@ -6,9 +6,9 @@ ghost use Rattle.model_file.specs.Written.{text_of_model};
 ghost use Rattle.model_file.specs.Reading.{AreSame, IsRead, Reads, IsReadAgain};
 
 use crate::file::Model;
+use crate::syntax::write_tree;
 use crate::trees::model_tree;
-use cyc_memory::OutOfMemory;
-use model_syntax::write_tree;
+use cyc_basics::memory::OutOfMemory;
 use std::alloc::Global;
 
 /// The text of a model in the written form: its tokens, the cells by ascending addresses, with one space between

@@ -5,7 +5,9 @@ ghost use Rattle.heap_formula.specs.Definitions.{Definition};
 ghost use Rattle.heap_formula.specs.Judgements.{IsLocallySound};
 ghost use Rattle.rule_table.specs.Answered.{IsAnswer};
 ghost use Rattle.rule_table.specs.Table.{absurd_answer};
-ghost use Rattle.rule_table.specs.Tests.{is_contradiction as contradiction, some_contradiction as contradictions, is_cell_at as cell_at, some_cell_at as cells_at, also_later as later_cell, two_cells as cells_meet, is_absurd as absurd_heap};
+ghost use Rattle.rule_table.specs.Tests.{is_contradiction as contradiction, some_contradiction as contradictions};
+ghost use Rattle.rule_table.specs.Tests.{is_cell_at as cell_at, some_cell_at as cells_at, also_later as later_cell};
+ghost use Rattle.rule_table.specs.Tests.{two_cells as cells_meet, is_absurd as absurd_heap};
 
 use heap_formula::{Heap, Judgement, Premise, Pure, RuleError, RuleFault, Spatial, Term};
 use rule_table::{antecedent, same_term};

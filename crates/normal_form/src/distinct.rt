@@ -10,8 +10,8 @@ ghost use Rattle.rule_table.specs.Answered.{IsAnswer};
 ghost use Rattle.rule_table.specs.Table.{with_pure, distinct_answer};
 ghost use Rattle.rule_table.specs.Tests.{address_of as address};
 
-use cyc_limits::MOST_PURE;
-use cyc_memory::OutOfMemory;
+use cyc_basics::limits::MOST_PURE;
+use cyc_basics::memory::OutOfMemory;
 use heap_formula::{Judgement, Premise, Pure, RuleError, RuleFault, Spatial, Term};
 use rule_table::{antecedent, has_room, numbered, one_premise, with_pure_atom};
 use std::alloc::Global;

@@ -9,7 +9,7 @@ ghost use Rattle.rule_table.specs.Answer.{one};
 ghost use Rattle.rule_table.specs.Answered.{IsAnswer};
 ghost use Rattle.rule_table.specs.Table.{without_spatial, drop_answer};
 
-use cyc_memory::OutOfMemory;
+use cyc_basics::memory::OutOfMemory;
 use heap_formula::{Heap, Judgement, Premise, RuleError, RuleFault};
 use rule_table::{one_premise, pairs_of_kept};
 use std::alloc::Global;

@@ -11,7 +11,7 @@ mod split;
 mod weaken;
 
 pub use absurd::premises_absurd;
-pub use cyc_memory::OutOfMemory;
+pub use cyc_basics::memory::OutOfMemory;
 pub use distinct::premises_distinct;
 pub use drop_atom::premises_drop;
 pub use rewrite::premises_rewrite;

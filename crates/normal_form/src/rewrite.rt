@@ -11,7 +11,7 @@ ghost use Rattle.rule_table.specs.Answered.{IsAnswer};
 ghost use Rattle.rule_table.specs.Table.{named, unnamed, rewritten, rewrite_side, rewrite_atom, rewrite_answer};
 
 use crate::weaken::weakened;
-use cyc_memory::OutOfMemory;
+use cyc_basics::memory::OutOfMemory;
 use heap_formula::{
     Heap, Judgement, Premise, Pure, RuleError, RuleFault, Side, Subst, Term, apply,
 };

@@ -8,8 +8,8 @@ ghost use Rattle.rule_table.specs.Answer.{two};
 ghost use Rattle.rule_table.specs.Answered.{IsAnswer};
 ghost use Rattle.rule_table.specs.Table.{with_pure, split_answer};
 
-use cyc_limits::MOST_PURE;
-use cyc_memory::OutOfMemory;
+use cyc_basics::limits::MOST_PURE;
+use cyc_basics::memory::OutOfMemory;
 use heap_formula::{Judgement, Premise, Pure, RuleError, RuleFault, Term};
 use rule_table::{has_room, numbered, two_premises, with_pure_atom};
 use std::alloc::Global;

@@ -8,7 +8,7 @@ ghost use Rattle.rule_table.specs.Answer.{one};
 ghost use Rattle.rule_table.specs.Answered.{IsAnswer};
 ghost use Rattle.rule_table.specs.Table.{with_pures, weaken_answer};
 
-use cyc_memory::OutOfMemory;
+use cyc_basics::memory::OutOfMemory;
 use heap_formula::{Judgement, Premise, RuleError, RuleFault};
 use rule_table::{antecedent, atoms_without, one_premise, with_pure_atoms};
 use std::alloc::Global;

@@ -6,13 +6,14 @@ use Rattle.std.specs.List.{list_any}
 use Rattle.heap_formula.specs.declared.terms.Term.{Term}
 use Rattle.heap_formula.specs.declared.terms.Term.TheVariants.{Nil}
 use Rattle.pair_family.specs.Classes.{class_of}
-use Rattle.pair_family.specs.Combination.{Two, upto, pairs_below, each_two, against_nil, cell_differences, is_between, is_in_class, is_least, Facts, all_differ, both, AreConsistent, said}
+use Rattle.pair_family.specs.Combination.{Two, upto, pairs_below, each_two, against_nil, cell_differences, is_between}
+use Rattle.pair_family.specs.Combination.{is_in_class, is_least, Facts, all_differ, both, AreConsistent, said}
 use Rattle.pair_family.proofs.Lists.{at_each, each_at, in_left, in_right, in_append, in_map, map_in, any_in, in_any}
-use Rattle.list_facts.specs.Words.{IsMember}
+use Rattle.cyc_basics.specs.Words.{IsMember}
 use Rattle.pair_family.proofs.Two.{two_append, append_two_left, append_two_right, append_two_cross}
 use Rattle.pair_family.proofs.Classes.{classes_have, classes_least}
 use Rattle.pair_family.proofs.Fold.{Links, links_between, between_links, links_to, filter_same, any_same}
-use Rattle.list_facts.proofs.Tests.{bool_same}
+use Rattle.cyc_basics.proofs.Tests.{bool_same}
 
 -- a pair in one order or the other
 abbrev pub IsEither : Two → List Two → Type 0
@@ -42,7 +43,8 @@ covered_then x y z a b = record {
   ];
 }
 
-appended : {X : Type 0} (x : X) (us vs ws zs : List X) → (IsMember x us → IsMember x ws) → (IsMember x vs → IsMember x zs) → IsMember x (us ++ vs) → IsMember x (ws ++ zs)
+appended : {X : Type 0} (x : X) (us vs ws zs : List X) → (IsMember x us → IsMember x ws)
+    → (IsMember x vs → IsMember x zs) → IsMember x (us ++ vs) → IsMember x (ws ++ zs)
 appended x us vs ws zs f g i =
     elim (in_append x us vs i) [ inl j ↦ in_left x ws zs (f j) | inr j ↦ in_right x ws zs (g j) ]
 
@@ -78,7 +80,8 @@ fronted x us vs ws i =
       ]
     ]
 
-fronted_twos : (q : Two) (us vs ws : List Term) → IsMember q (each_two (us ++ (vs ++ ws))) → IsEither q (each_two (vs ++ (us ++ ws)))
+fronted_twos : (q : Two) (us vs ws : List Term) → IsMember q (each_two (us ++ (vs ++ ws)))
+    → IsEither q (each_two (vs ++ (us ++ ws)))
 fronted_twos q us vs ws i =
     elim (two_append q us (vs ++ ws) i) [
       | inl j ↦ inl (append_two_right q vs (us ++ ws) (append_two_left q us ws j))
@@ -129,7 +132,8 @@ module _ (x y : Facts) (covered : AreCovered x y) where
   fy = class_of y.equal
 
   joined_too : (t u : Term) → fx t ≡ fx u → fy t ≡ fy u
-  joined_too t u e = classes_least fy x.equal (at_each (λ q. fy q.0 ≡ fy q.1) x.equal (λ q i. each_at (λ q. fy q.0 ≡ fy q.1) y.equal q (classes_have y.equal) (covered.equal q i))) t u e
+  joined_too t u e = classes_least fy x.equal (at_each (λ q. fy q.0 ≡ fy q.1) x.equal
+      (λ q i. each_at (λ q. fy q.0 ≡ fy q.1) y.equal q (classes_have y.equal) (covered.equal q i))) t u e
 
   in_differences : (q : Two) (qs : List Two) → IsEither q qs → (ds : List Two) → IsEither q (ds ++ qs)
   in_differences q qs (inl i) ds = inl (in_right q ds qs i)
@@ -139,12 +143,15 @@ module _ (x y : Facts) (covered : AreCovered x y) where
   differ_too q m =
       elim (in_append q x.differ (cell_differences x.cells) m) [
         | inl i ↦ inl (in_left q y.differ (cell_differences y.cells) (covered.differ q i))
-        | inr i ↦ in_differences q (cell_differences y.cells) (elim (in_append q (against_nil x.cells) (each_two x.cells) i) [
-          | inl j ↦
-              (let r = map_in (λ t. (t, Nil)) q x.cells j in
-              inl (in_left q (against_nil y.cells) (each_two y.cells) (subst (λ z. IsMember z (against_nil y.cells)) r.2 (in_map (λ t. (t, Nil)) r.0 y.cells (covered.cells r.0 r.1)))))
-          | inr j ↦ in_differences q (each_two y.cells) (covered.twos q j) (against_nil y.cells)
-        ]) y.differ
+        | inr i ↦ in_differences q (cell_differences y.cells)
+            (elim (in_append q (against_nil x.cells) (each_two x.cells) i) [
+              | inl j ↦
+                  (let r = map_in (λ t. (t, Nil)) q x.cells j in
+                  inl (in_left q (against_nil y.cells) (each_two y.cells)
+                  (subst (λ z. IsMember z (against_nil y.cells)) r.2
+                  (in_map (λ t. (t, Nil)) r.0 y.cells (covered.cells r.0 r.1)))))
+              | inr j ↦ in_differences q (each_two y.cells) (covered.twos q j) (against_nil y.cells)
+            ]) y.differ
       ]
 
   -- what covers is consistent only if what it covers is
@@ -164,19 +171,22 @@ module _ (x y : Facts) (covered : AreCovered x y) where
     same_too : (i j : ℕ) → nat_eq (fx (at i)) (fx (at j)) ≡ true → nat_eq (fy (at i)) (fy (at j)) ≡ true
     same_too i j h = eq-eqb _ _ (joined_too (at i) (at j) (eqb-true _ _ h))
 
-    between_too : (i j : ℕ) → list_any (is_between fx at i j) (all_differ x) ≡ true → list_any (is_between fy at i j) (all_differ y) ≡ true
+    between_too : (i j : ℕ) → list_any (is_between fx at i j) (all_differ x) ≡ true
+        → list_any (is_between fy at i j) (all_differ y) ≡ true
     between_too i j h =
         let r = any_in (is_between fx at i j) (all_differ x) h in
         let l = links_to fx fy joined_too r.0 (at i) (at j) (between_links fx at i j r.0 r.2) in
         elim (differ_too r.0 r.1) [
           | inl m ↦ in_any (is_between fy at i j) (all_differ y) r.0 m (links_between fy at i j r.0 l)
-          | inr m ↦ in_any (is_between fy at i j) (all_differ y) (r.0.1, r.0.0) m (links_between fy at i j (r.0.1, r.0.0) (links_turned fy r.0 (at i) (at j) l))
+          | inr m ↦ in_any (is_between fy at i j) (all_differ y) (r.0.1, r.0.0) m
+              (links_between fy at i j (r.0.1, r.0.0) (links_turned fy r.0 (at i) (at j) l))
         ]
 
     cells_too : (i : ℕ) → list_any (is_in_class fx at i) x.cells ≡ true → list_any (is_in_class fy at i) y.cells ≡ true
     cells_too i h =
         let r = any_in (is_in_class fx at i) x.cells h in
-        in_any (is_in_class fy at i) y.cells r.0 (covered.cells r.0 r.1) (eq-eqb _ _ (joined_too r.0 (at i) (eqb-true _ _ r.2)))
+        in_any (is_in_class fy at i) y.cells r.0 (covered.cells r.0 r.1)
+        (eq-eqb _ _ (joined_too r.0 (at i) (eqb-true _ _ r.2)))
 
 pub alike_consistent : (x y : Facts) → AreAlike x y → AreConsistent y → AreConsistent x
 alike_consistent x y a = consistent_too x y a.0
@@ -185,12 +195,19 @@ pub alike_said : (k : ℕ) (at : ℕ → Term) (x y : Facts) → AreAlike x y �
 alike_said k at x y a =
     let f = class_of x.equal in
     let g = class_of y.equal in
-    let agree = λ (i j : ℕ). bool_same (nat_eq (f (at i)) (f (at j))) (nat_eq (g (at i)) (g (at j))) (same_too x y a.0 at i j) (same_too y x a.1 at i j) in
-    let s = filter_same (λ q. nat_eq (f (at q.0)) (f (at q.1))) (λ q. nat_eq (g (at q.0)) (g (at q.1))) (pairs_below (suc k)) (λ q m. agree q.0 q.1) in
-    let d = filter_same (λ q. list_any (is_between f at q.0 q.1) (all_differ x)) (λ q. list_any (is_between g at q.0 q.1) (all_differ y)) (pairs_below (suc k)) (λ q m. bool_same _ _ (between_too x y a.0 at q.0 q.1) (between_too y x a.1 at q.0 q.1)) in
-    let least = λ (i : ℕ). any_same (λ j. is_in_class f at i (at j)) (λ j. is_in_class g at i (at j)) (upto i) (λ j m. agree j i) in
-    let c = filter_same (λ i. is_least f at i && list_any (is_in_class f at i) x.cells) (λ i. is_least g at i && list_any (is_in_class g at i) y.cells) (upto (suc k)) (λ i m.
+    let agree = λ (i j : ℕ). bool_same (nat_eq (f (at i)) (f (at j))) (nat_eq (g (at i)) (g (at j)))
+    (same_too x y a.0 at i j) (same_too y x a.1 at i j) in
+    let s = filter_same (λ q. nat_eq (f (at q.0)) (f (at q.1))) (λ q. nat_eq (g (at q.0)) (g (at q.1)))
+    (pairs_below (suc k)) (λ q m. agree q.0 q.1) in
+    let d = filter_same (λ q. list_any (is_between f at q.0 q.1) (all_differ x))
+    (λ q. list_any (is_between g at q.0 q.1) (all_differ y)) (pairs_below (suc k))
+    (λ q m. bool_same _ _ (between_too x y a.0 at q.0 q.1) (between_too y x a.1 at q.0 q.1)) in
+    let least = λ (i : ℕ). any_same (λ j. is_in_class f at i (at j)) (λ j. is_in_class g at i (at j)) (upto i)
+    (λ j m. agree j i) in
+    let c = filter_same (λ i. is_least f at i && list_any (is_in_class f at i) x.cells)
+    (λ i. is_least g at i && list_any (is_in_class g at i) y.cells) (upto (suc k)) (λ i m.
     let n = least i in
-    let b = bool_same (list_any (is_in_class f at i) x.cells) (list_any (is_in_class g at i) y.cells) (cells_too x y a.0 at i) (cells_too y x a.1 at i) in
+    let b = bool_same (list_any (is_in_class f at i) x.cells) (list_any (is_in_class g at i) y.cells)
+    (cells_too x y a.0 at i) (cells_too y x a.1 at i) in
     λ z. not (n z) && b z) in
     λ z. record { same = s z; differ = d z; cells = c z }

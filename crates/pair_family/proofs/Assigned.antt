@@ -1,5 +1,7 @@
--- Values for the classes of a combination, from values of the parameters that respect its projection: the other classes get values of their own, past a bound.
-use Rattle.std.proofs.Common.{◌≡◌, ◌≢◌, ℕ, zero, suc, ◌+◌, ◌<◌, ◌≤◌, ◌⊎◌, inl, inr, List, map, arith, true, cond, ◌&&◌, sym, refl, ap, ◌∙◌, subst}
+-- Values for the classes of a combination, from values of the parameters that respect its projection: the other classes
+-- get values of their own, past a bound.
+use Rattle.std.proofs.Common.{◌≡◌, ◌≢◌, ℕ, zero, suc, ◌+◌, ◌<◌, ◌≤◌, ◌⊎◌, inl, inr, List, map, arith, true, cond, ◌&&◌}
+use Rattle.std.proofs.Common.{sym, refl, ap, ◌∙◌, subst}
 use Rattle.std.specs.Prelude.{nat_eq}
 use Rattle.std.proofs.lemmas.Bool.{cases_Bool, cases_lt, or_left, or_right, and_from, eqb-true, eq-eqb}
 use Rattle.std.proofs.lemmas.Bool.Decides.{eqb_tells}
@@ -8,7 +10,7 @@ use Rattle.heap_formula.specs.declared.terms.Term.{Term}
 use Rattle.heap_formula.specs.Words.{Each}
 use Rattle.pair_family.specs.Combination.{Two, upto, pairs_below, is_between, is_in_class, is_least, kept}
 use Rattle.pair_family.proofs.Lists.{each_at, in_filter, any_in, in_any, in_map, in_upto, upto_in, in_pairs}
-use Rattle.list_facts.specs.Words.{IsMember}
+use Rattle.cyc_basics.specs.Words.{IsMember}
 
 module _ (k : ℕ) (at : ℕ → Term) (f : Term → ℕ) (ds : List Two) (cs : List Term) where
   -- some number of a class is its least
@@ -24,16 +26,25 @@ module _ (k : ℕ) (at : ℕ → Term) (f : Term → ℕ) (ds : List Two) (cs : 
         | inr n ↦ (i, omega arith, refl, rw n refl)
       ]
 
-  pub cell_kept : (t : Term) (i : ℕ) → IsMember t cs → i ≤ k → f t ≡ f (at i) → (c : ℕ) × (IsMember c (kept k at f ds cs).cells) × (c ≤ k) × (f (at c) ≡ f t)
+  pub cell_kept : (t : Term) (i : ℕ) → IsMember t cs → i ≤ k → f t ≡ f (at i)
+      → (c : ℕ) × (IsMember c (kept k at f ds cs).cells) × (c ≤ k) × (f (at c) ≡ f t)
   cell_kept t i m l e =
       let c = least_of (suc i) i (omega arith) in
-      let same : f t ≡ f (at c.0) = e ∙ sym c.2 in
-      (c.0, in_filter (λ i. is_least f at i && list_any (is_in_class f at i) cs) c.0 (upto (suc k)) (in_upto (suc k) c.0 (omega arith)) (and_from _ _ c.3 (in_any (is_in_class f at c.0) cs t m (eq-eqb _ _ same))), omega arith, sym same)
+      let same : f t ≡ f (at c.0) = e ∙ sym c.2 in (
+        c.0,
+        in_filter (λ i. is_least f at i && list_any (is_in_class f at i) cs) c.0 (upto (suc k))
+            (in_upto (suc k) c.0 (omega arith)) (and_from _ _ c.3
+            (in_any (is_in_class f at c.0) cs t m (eq-eqb _ _ same))),
+        omega arith,
+        sym same,
+      )
 
   module _ (val : ℕ → ℕ) (S : Each (λ q. val q.0 ≡ val q.1) (kept k at f ds cs).same) where
     same_below : (i j : ℕ) → i < j → j ≤ k → f (at i) ≡ f (at j) → val i ≡ val j
     same_below i j l m e =
-        each_at (λ q. val q.0 ≡ val q.1) (kept k at f ds cs).same (i, j) S (in_filter (λ q. nat_eq (f (at q.0)) (f (at q.1))) (i, j) (pairs_below (suc k)) (in_pairs (suc k) i j l (omega arith)) (eq-eqb _ _ e))
+        each_at (λ q. val q.0 ≡ val q.1) (kept k at f ds cs).same (i, j) S
+        (in_filter (λ q. nat_eq (f (at q.0)) (f (at q.1))) (i, j) (pairs_below (suc k))
+        (in_pairs (suc k) i j l (omega arith)) (eq-eqb _ _ e))
 
     pub same_kept : (i j : ℕ) → i ≤ k → j ≤ k → f (at i) ≡ f (at j) → val i ≡ val j
     same_kept i j l m e =
@@ -45,16 +56,21 @@ module _ (k : ℕ) (at : ℕ → Term) (f : Term → ℕ) (ds : List Two) (cs : 
           ]
         ]
 
-    differ_below : Each (λ q. val q.0 ≢ val q.1) (kept k at f ds cs).differ → (i j : ℕ) (q : Two) → i < j → j ≤ k → IsMember q ds → is_between f at i j q ≡ true → val i ≢ val j
+    differ_below : Each (λ q. val q.0 ≢ val q.1) (kept k at f ds cs).differ → (i j : ℕ) (q : Two) → i < j → j ≤ k
+        → IsMember q ds → is_between f at i j q ≡ true → val i ≢ val j
     differ_below A i j q l m d t =
-        each_at (λ q. val q.0 ≢ val q.1) (kept k at f ds cs).differ (i, j) A (in_filter (λ q. list_any (is_between f at q.0 q.1) ds) (i, j) (pairs_below (suc k)) (in_pairs (suc k) i j l (omega arith)) (in_any (is_between f at i j) ds q d t))
+        each_at (λ q. val q.0 ≢ val q.1) (kept k at f ds cs).differ (i, j) A
+        (in_filter (λ q. list_any (is_between f at q.0 q.1) ds) (i, j) (pairs_below (suc k))
+        (in_pairs (suc k) i j l (omega arith)) (in_any (is_between f at i j) ds q d t))
 
-    pub differ_kept : Each (λ q. val q.0 ≢ val q.1) (kept k at f ds cs).differ → (i j : ℕ) (q : Two) → i ≤ k → j ≤ k → IsMember q ds → f q.0 ≢ f q.1 → f q.0 ≡ f (at i) → f q.1 ≡ f (at j) → val i ≢ val j
+    pub differ_kept : Each (λ q. val q.0 ≢ val q.1) (kept k at f ds cs).differ → (i j : ℕ) (q : Two) → i ≤ k → j ≤ k
+        → IsMember q ds → f q.0 ≢ f q.1 → f q.0 ≡ f (at i) → f q.1 ≡ f (at j) → val i ≢ val j
     differ_kept A i j q l m d n a b =
         elim (cases_lt i j) [
           | inl x ↦ differ_below A i j q x m d (or_left _ _ (and_from _ _ (eq-eqb _ _ a) (eq-eqb _ _ b)))
           | inr y ↦ elim (cases_lt j i) [
-            | inl x ↦ λ e. differ_below A j i q x l d (or_right _ _ (and_from _ _ (eq-eqb _ _ a) (eq-eqb _ _ b))) (sym e)
+            | inl x ↦ λ e. differ_below A j i q x l d (or_right _ _ (and_from _ _ (eq-eqb _ _ a) (eq-eqb _ _ b)))
+                (sym e)
             | inr z ↦ (let s : i ≡ j = omega arith in absurd (n (a ∙ ap (λ x. f (at x)) s ∙ sym b)))
           ]
         ]
@@ -65,7 +81,8 @@ module _ (k : ℕ) (at : ℕ → Term) (f : Term → ℕ) (ds : List Two) (cs : 
       assigned zero l = cond (nat_eq l (f (at 0))) (val 0) (w + l)
       assigned (suc j) l = cond (nat_eq l (f (at (suc j)))) (val (suc j)) (assigned j l)
 
-      assigned_cases : (j l : ℕ) → ((i : ℕ) × (i ≤ j) × (l ≡ f (at i)) × (assigned j l ≡ val i)) ⊎ ((assigned j l ≡ w + l) × ((i : ℕ) → i ≤ j → l ≢ f (at i)))
+      assigned_cases : (j l : ℕ) → ((i : ℕ) × (i ≤ j) × (l ≡ f (at i)) × (assigned j l ≡ val i))
+          ⊎ ((assigned j l ≡ w + l) × ((i : ℕ) → i ≤ j → l ≢ f (at i)))
       unfolding assigned
       assigned_cases zero l =
           elim (eqb_tells l (f (at 0))) [
@@ -107,7 +124,8 @@ module _ (k : ℕ) (at : ℕ → Term) (f : Term → ℕ) (ds : List Two) (cs : 
             | inr b ↦ absurd (b.1 i l refl)
           ]
 
-      pub worth_apart : Each (λ q. val q.0 ≢ val q.1) (kept k at f ds cs).differ → (q : Two) → IsMember q ds → f q.0 ≢ f q.1 → worth q.0 ≢ worth q.1
+      pub worth_apart : Each (λ q. val q.0 ≢ val q.1) (kept k at f ds cs).differ → (q : Two) → IsMember q ds
+          → f q.0 ≢ f q.1 → worth q.0 ≢ worth q.1
       unfolding worth
       worth_apart A q d n e =
           elim (assigned_cases k (f q.0)) [
@@ -121,13 +139,15 @@ module _ (k : ℕ) (at : ℕ → Term) (f : Term → ℕ) (ds : List Two) (cs : 
             ]
           ]
 
-      pub worth_cell : (t : Term) → IsMember t cs → IsMember (worth t) (map val (kept k at f ds cs).cells) ⊎ (w ≤ worth t)
+      pub worth_cell : (t : Term) → IsMember t cs → IsMember (worth t) (map val (kept k at f ds cs).cells)
+          ⊎ (w ≤ worth t)
       unfolding worth
       worth_cell t m =
           elim (assigned_cases k (f t)) [
             | inl a ↦
                 (let c = cell_kept t a.0 m a.1 a.2 in
                 let s : val c.0 ≡ assigned k (f t) = same_kept c.0 a.0 c.2 a.1 (c.3 ∙ a.2) ∙ sym a.3 in
-                inl (subst (λ x. IsMember x (map val (kept k at f ds cs).cells)) s (in_map val c.0 (kept k at f ds cs).cells c.1)))
+                inl (subst (λ x. IsMember x (map val (kept k at f ds cs).cells)) s
+                (in_map val c.0 (kept k at f ds cs).cells c.1)))
             | inr b ↦ inr (let s = b.0 in omega arith)
           ]

@@ -20,7 +20,8 @@ same_number (Exist m) (Univ n) e = absurd (omega arith)
 same_number (Exist m) (Exist n) e = let s : m ≡ n = omega arith in ap Exist s
 
 -- a term's class after one more equation
-class_cases : (f : Term → ℕ) (q : Two) (t : Term) → ((f t ≡ f q.1) × (merged f q t ≡ f q.0)) ⊎ ((f t ≢ f q.1) × (merged f q t ≡ f t))
+class_cases : (f : Term → ℕ) (q : Two) (t : Term) → ((f t ≡ f q.1) × (merged f q t ≡ f q.0))
+    ⊎ ((f t ≢ f q.1) × (merged f q t ≡ f t))
 class_cases f q t =
     elim (eqb_tells (f t) (f q.1)) [
       | inl y ↦ inl (y.1, rw y.0 refl)
@@ -44,7 +45,8 @@ have_from : (f : Term → ℕ) (qs : List Two) → Each (λ q. class_from f qs q
 have_from f [] = tt
 have_from f (q ∷ qs) = (class_stays (merged f q) qs q.0 q.1 (merged_joins f q), have_from (merged f q) qs)
 
-least_from : (v : Term → ℕ) (f : Term → ℕ) (qs : List Two) → ((t u : Term) → f t ≡ f u → v t ≡ v u) → Each (λ q. v q.0 ≡ v q.1) qs → (t u : Term) → class_from f qs t ≡ class_from f qs u → v t ≡ v u
+least_from : (v : Term → ℕ) (f : Term → ℕ) (qs : List Two) → ((t u : Term) → f t ≡ f u → v t ≡ v u)
+    → Each (λ q. v q.0 ≡ v q.1) qs → (t u : Term) → class_from f qs t ≡ class_from f qs u → v t ≡ v u
 least_from v f [] within has t u e = within t u e
 least_from v f (q ∷ qs) within has t u e = least_from v (merged f q) qs step has.1 t u e
   where
@@ -66,5 +68,6 @@ pub classes_have : (qs : List Two) → Each (λ q. class_of qs q.0 ≡ class_of 
 classes_have qs = have_from term_number qs
 
 -- and the partition is the finest: whatever has the equations has what stands in one class
-pub classes_least : (v : Term → ℕ) (qs : List Two) → Each (λ q. v q.0 ≡ v q.1) qs → (t u : Term) → class_of qs t ≡ class_of qs u → v t ≡ v u
+pub classes_least : (v : Term → ℕ) (qs : List Two) → Each (λ q. v q.0 ≡ v q.1) qs → (t u : Term)
+    → class_of qs t ≡ class_of qs u → v t ≡ v u
 classes_least v qs has t u e = least_from v term_number qs (λ t u s. ap v (same_number t u s)) has t u e

@@ -1,4 +1,5 @@
--- The list segment from its first parameter to its second: equal, or a cell and a segment from a local. It has two base pairs.
+-- The list segment from its first parameter to its second: equal, or a cell and a segment from a local. It has two base
+-- pairs.
 use Rattle.std.proofs.Common.{◌≡◌, [], ◌∷◌, refl}
 use Rattle.heap_formula.specs.declared.terms.Term.TheVariants.{Univ, Exist}
 use Rattle.heap_formula.specs.declared.atoms.Pure.TheVariants.{Eq}
@@ -31,5 +32,8 @@ second_again : projection 2 (λ k. full_segment) first_cell ≡ full_segment
 second_again = refl
 
 -- two cells at one address
-two_cells : IsConsistent (λ k. empty_segment) (record { pure = []; spatial = Cell (Univ 0) (Univ 1 ∷ []) ∷ Cell (Univ 0) (Univ 2 ∷ []) ∷ [] }) → ⊥
+two_cells : IsConsistent (λ k. empty_segment) (record {
+  pure = [];
+  spatial = Cell (Univ 0) (Univ 1 ∷ []) ∷ Cell (Univ 0) (Univ 2 ∷ []) ∷ [];
+}) → ⊥
 two_cells c = c.1.1.0 refl

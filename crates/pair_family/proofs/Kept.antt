@@ -6,12 +6,13 @@ use Rattle.std.specs.List.{list_any}
 use Rattle.heap_formula.specs.declared.terms.Term.{Term}
 use Rattle.pair_family.specs.Combination.{Two, upto, pairs_below, each_two, is_between, is_in_class, is_least, kept}
 use Rattle.pair_family.proofs.Lists.{filter_in, any_in, in_any, in_upto}
-use Rattle.list_facts.specs.Words.{IsMember}
+use Rattle.cyc_basics.specs.Words.{IsMember}
 use Rattle.pair_family.proofs.Two.{two_in, in_two, two_filter, two_upto}
 
 module _ (k : ℕ) (at : ℕ → Term) (f : Term → ℕ) (ds : List Two) (cs : List Term) where
   -- an address for each cell that is kept
-  pub cell_class : (c : ℕ) → IsMember c (kept k at f ds cs).cells → (t : Term) × IsMember t cs × (f t ≡ f (at c)) × (is_least f at c ≡ true)
+  pub cell_class : (c : ℕ) → IsMember c (kept k at f ds cs).cells
+      → (t : Term) × IsMember t cs × (f t ≡ f (at c)) × (is_least f at c ≡ true)
   cell_class c m =
       let r = filter_in (λ i. is_least f at i && list_any (is_in_class f at i) cs) c (upto (suc k)) m in
       let p = and_parts _ _ r.1 in
@@ -24,10 +25,13 @@ module _ (k : ℕ) (at : ℕ → Term) (f : Term → ℕ) (ds : List Two) (cs : 
       let h' : false ≡ true = rw found at h in both_ways false refl h'
 
   -- each two cells that are kept come from two addresses
-  pub cells_two : (q : ℕ × ℕ) → IsMember q (each_two (kept k at f ds cs).cells) → (r : Two) × (IsMember r (each_two cs)) × (((f r.0 ≡ f (at q.0)) × (f r.1 ≡ f (at q.1))) ⊎ ((f r.0 ≡ f (at q.1)) × (f r.1 ≡ f (at q.0))))
+  pub cells_two : (q : ℕ × ℕ) → IsMember q (each_two (kept k at f ds cs).cells)
+      → (r : Two) × (IsMember r (each_two cs)) × (((f r.0 ≡ f (at q.0)) × (f r.1 ≡ f (at q.1)))
+      ⊎ ((f r.0 ≡ f (at q.1)) × (f r.1 ≡ f (at q.0))))
   cells_two q m =
       let both = two_in q (kept k at f ds cs).cells m in
-      let less = two_upto (suc k) q (two_filter (λ i. is_least f at i && list_any (is_in_class f at i) cs) q (upto (suc k)) m) in
+      let less = two_upto (suc k) q (two_filter (λ i. is_least f at i && list_any (is_in_class f at i) cs) q
+      (upto (suc k)) m) in
       let a = cell_class q.0 both.0 in
       let b = cell_class q.1 both.1 in
       let two : f a.0 ≢ f b.0 = λ e. not_least q.0 q.1 less (sym a.2 ∙ e ∙ b.2) b.3 in
@@ -41,7 +45,8 @@ module _ (k : ℕ) (at : ℕ → Term) (f : Term → ℕ) (ds : List Two) (cs : 
 
   -- ---- what is kept is so
 
-  module _ (v : Term → ℕ) (val : ℕ → ℕ) (is : (i : ℕ) → v (at i) ≡ val i) (E : (t u : Term) → f t ≡ f u → v t ≡ v u) (D : (q : Two) → IsMember q ds → v q.0 ≢ v q.1) (C : (q : Two) → IsMember q (each_two cs) → v q.0 ≢ v q.1) where
+  module _ (v : Term → ℕ) (val : ℕ → ℕ) (is : (i : ℕ) → v (at i) ≡ val i) (E : (t u : Term) → f t ≡ f u → v t ≡ v u)
+      (D : (q : Two) → IsMember q ds → v q.0 ≢ v q.1) (C : (q : Two) → IsMember q (each_two cs) → v q.0 ≢ v q.1) where
     apart_at : (i j : ℕ) (q : Two) → (v q.0 ≢ v q.1) → f q.0 ≡ f (at i) → f q.1 ≡ f (at j) → val i ≢ val j
     apart_at i j q d a b e = d (E q.0 (at i) a ∙ is i ∙ e ∙ sym (is j) ∙ sym (E q.1 (at j) b))
 
@@ -56,7 +61,8 @@ module _ (k : ℕ) (at : ℕ → Term) (f : Term → ℕ) (ds : List Two) (cs : 
         let o = any_in (is_between f at q.0 q.1) ds r.1 in
         elim (or_cases _ _ o.2) [
           | inl a ↦ (let p = and_parts _ _ a in apart_at q.0 q.1 o.0 (D o.0 o.1) (eqb-true _ _ p.0) (eqb-true _ _ p.1))
-          | inr a ↦ (let p = and_parts _ _ a in λ e. apart_at q.1 q.0 o.0 (D o.0 o.1) (eqb-true _ _ p.0) (eqb-true _ _ p.1) (sym e))
+          | inr a ↦ (let p = and_parts _ _ a in λ e. apart_at q.1 q.0 o.0 (D o.0 o.1) (eqb-true _ _ p.0)
+              (eqb-true _ _ p.1) (sym e))
         ]
 
     pub kept_cell : (c : ℕ) → IsMember c (kept k at f ds cs).cells → (t : Term) × IsMember t cs × (v t ≡ val c)

@@ -12,7 +12,7 @@ pub mod Rounds
 pub mod Fold
 pub mod ByAtom
 pub mod Exact
-pub mod States
+pub mod StatesFacts
 pub mod Kernel
 pub mod SemiNaive
 pub mod Alike
@@ -20,3 +20,9 @@ pub mod Reordered
 pub mod ListFrames
 pub mod Examples
 pub mod Large
+pub mod Rows
+pub mod Labelled
+pub mod Combined
+pub mod Growing
+pub mod Interned
+pub mod Sized

@@ -1,5 +1,6 @@
 -- The lists of kept terms are frames.
-use Rattle.std.proofs.Common.{◌≡◌, ◌⊎◌, inl, inr, ℕ, zero, suc, ◌+◌, ◌<◌, ◌≤◌, List, [], ◌∷◌, ◌++◌, length, true, arith, sym, refl, ap, ◌∙◌, subst}
+use Rattle.std.proofs.Common.{◌≡◌, ◌⊎◌, inl, inr, ℕ, zero, suc, ◌+◌, ◌<◌, ◌≤◌, List, [], ◌∷◌, ◌++◌, length, true, arith}
+use Rattle.std.proofs.Common.{sym, refl, ap, ◌∙◌, subst}
 use Rattle.std.specs.Prelude.{nat_eq}
 use Rattle.std.proofs.lemmas.Bool.{cases_Bool, eqb-true}
 use Rattle.heap_formula.specs.declared.terms.Term.{Term}
@@ -11,7 +12,7 @@ use Rattle.pair_family.specs.Folding.{last_frame, IsKept, AreFrames, spoken}
 use Rattle.pair_family.specs.Frames.{term_at, frame_of, has_term, one_more, with_terms, kept_terms, frames_of}
 use Rattle.heap_formula.specs.Fresh.{variables_from}
 use Rattle.pair_family.proofs.Lists.{at_each, any_in, in_left, in_right}
-use Rattle.list_facts.specs.Words.{IsMember}
+use Rattle.cyc_basics.specs.Words.{IsMember}
 use Rattle.pair_family.proofs.ByAtom.{IsOfParameters}
 use Rattle.pair_family.proofs.Classes.{same_number}
 
@@ -55,7 +56,8 @@ terms_kept terms (t ∷ ts) u m = terms_kept (one_more terms t) ts u (one_kept t
 
 pub terms_there : (terms ts : List Term) (u : Term) → IsMember u ts → IsMember u (Nil ∷ with_terms terms ts)
 terms_there terms [] u m = absurd m
-terms_there terms (t ∷ ts) u (inl s) = subst (λ z. IsMember z (Nil ∷ with_terms (one_more terms t) ts)) s (terms_kept (one_more terms t) ts t (one_there terms t))
+terms_there terms (t ∷ ts) u (inl s) = subst (λ z. IsMember z (Nil ∷ with_terms (one_more terms t) ts)) s
+    (terms_kept (one_more terms t) ts t (one_there terms t))
 terms_there terms (t ∷ ts) u (inr m) = terms_there (one_more terms t) ts u m
 
 -- what is there stays where it is
@@ -90,7 +92,8 @@ are_frames k (x ∷ xs) =
       kept_in all Nil (inl refl),
       at_each (IsKept (frame_of all)) (spoken x) (λ t m. kept_in all t (terms_there (kept_terms k xs) (spoken x) t m)),
       λ i l. elim (index_in (Nil ∷ kept_terms k xs) i) [
-        | inl m ↦ kept_in all (term_at (Nil ∷ kept_terms k xs) i) (terms_kept (kept_terms k xs) (spoken x) (term_at (Nil ∷ kept_terms k xs) i) m)
+        | inl m ↦ kept_in all (term_at (Nil ∷ kept_terms k xs) i)
+            (terms_kept (kept_terms k xs) (spoken x) (term_at (Nil ∷ kept_terms k xs) i) m)
         | inr e ↦ subst (IsKept (frame_of all)) (sym e) (kept_in all Nil (inl refl))
       ],
       are_frames k xs,
@@ -105,7 +108,8 @@ long_parameters i (suc k) = let l = long_parameters (suc i) k in omega arith
 at_parameters : (i k j : ℕ) → j < k → term_at (variables_from i k) j ≡ Univ (i + j)
 at_parameters i zero j l = absurd (omega arith)
 at_parameters i (suc k) zero l = let e : i ≡ i + 0 = omega arith in ap Univ e
-at_parameters i (suc k) (suc j) l = let e : suc i + j ≡ i + suc j = omega arith in at_parameters (suc i) k j (omega arith) ∙ ap Univ e
+at_parameters i (suc k) (suc j) l = let e : suc i + j ≡ i + suc j = omega arith in
+    at_parameters (suc i) k j (omega arith) ∙ ap Univ e
 
 pub parameters_frame : (k : ℕ) (xs : List Spatial) → IsOfParameters k (last_frame (frames_of k xs) xs)
 parameters_frame k (x ∷ xs) = parameters_frame k xs

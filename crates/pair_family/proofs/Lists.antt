@@ -1,10 +1,11 @@
 -- Members of lists.
-use Rattle.std.proofs.Common.{◌≡◌, ℕ, zero, suc, ◌<◌, ◌⊎◌, inl, inr, List, [], ◌∷◌, ◌++◌, map, filter, arith, Bool, true, false, sym, refl, ap, subst}
+use Rattle.std.proofs.Common.{◌≡◌, ℕ, zero, suc, ◌<◌, ◌⊎◌, inl, inr, List, [], ◌∷◌, ◌++◌, map, filter, arith, Bool}
+use Rattle.std.proofs.Common.{true, false, sym, refl, ap, subst}
 use Rattle.std.proofs.lemmas.Bool.{cases_lt, cases_Bool, or_cases, or_left, or_right, both_ways}
 use Rattle.std.specs.List.{list_any}
 use Rattle.heap_formula.specs.Words.{Each}
 use Rattle.pair_family.specs.Combination.{upto, pairs_below}
-use Rattle.list_facts.specs.Words.{IsMember}
+use Rattle.cyc_basics.specs.Words.{IsMember}
 
 pub each_at : {X : Type 0} (P : X → Type 0) (xs : List X) (x : X) → Each P xs → IsMember x xs → P x
 each_at P [] x e i = absurd i
@@ -38,24 +39,34 @@ in_map f x [] i = absurd i
 in_map f x (y ∷ xs) (inl s) = inl (ap f s)
 in_map f x (y ∷ xs) (inr i) = inr (in_map f x xs i)
 
-pub map_in : {X Y : Type 0} (f : X → Y) (y : Y) (xs : List X) → IsMember y (map f xs) → (x : X) × IsMember x xs × (f x ≡ y)
+pub map_in : {X Y : Type 0} (f : X → Y) (y : Y) (xs : List X) → IsMember y (map f xs)
+    → (x : X) × IsMember x xs × (f x ≡ y)
 map_in f y [] i = absurd i
 map_in f y (x ∷ xs) (inl s) = (x, inl refl, s)
 map_in f y (x ∷ xs) (inr i) = let r = map_in f y xs i in (r.0, inr r.1, r.2)
 
-pub in_filter : {X : Type 0} (t : X → Bool) (x : X) (xs : List X) → IsMember x xs → t x ≡ true → IsMember x (filter t xs)
+pub in_filter : {X : Type 0} (t : X → Bool) (x : X) (xs : List X) → IsMember x xs → t x ≡ true
+    → IsMember x (filter t xs)
 in_filter t x [] i p = absurd i
 in_filter t x (y ∷ xs) (inl s) p = let p' : t y ≡ true = subst (λ z. t z ≡ true) (sym s) p in rw p' (inl s)
 in_filter t x (y ∷ xs) (inr i) p =
-    elim (cases_Bool (t y)) [ inl yes' ↦ rw yes' (inr (in_filter t x xs i p)) | inr no' ↦ rw no' (in_filter t x xs i p) ]
+    elim (cases_Bool (t y)) [
+      | inl yes' ↦ rw yes' (inr (in_filter t x xs i p))
+      | inr no' ↦ rw no' (in_filter t x xs i p)
+    ]
 
-pub filter_in : {X : Type 0} (t : X → Bool) (x : X) (xs : List X) → IsMember x (filter t xs) → IsMember x xs × (t x ≡ true)
+pub filter_in : {X : Type 0} (t : X → Bool) (x : X) (xs : List X) → IsMember x (filter t xs)
+    → IsMember x xs × (t x ≡ true)
 filter_in t x [] i = absurd i
 filter_in {X = X} t x (y ∷ xs) i =
     elim (cases_Bool (t y)) [
       | inl yes' ↦
           (let i' : IsMember x (y ∷ filter t xs) = rw yes' at i in
-          elim i' [ inl s ↦ (inl s, subst (λ z. t z ≡ true) s yes') | inr k ↦ (let r = filter_in t x xs k in (inr r.0, r.1)) ])
+          elim i' [
+            | inl s ↦ (inl s, subst (λ z. t z ≡ true) s yes')
+            | inr k ↦
+                (let r = filter_in t x xs k in (inr r.0, r.1))
+          ])
       | inr no' ↦ (let i' : IsMember x (filter t xs) = rw no' at i in let r = filter_in t x xs i' in (inr r.0, r.1))
     ]
 
@@ -92,7 +103,9 @@ in_pairs (suc n) i j l m =
       | inl a ↦ in_left (i, j) (pairs_below n) (map (λ k. (k, n)) (upto n)) (in_pairs n i j l a)
       | inr b ↦
           (let e : j ≡ n = omega arith in
-          in_right (i, j) (pairs_below n) (map (λ k. (k, n)) (upto n)) (subst (λ x. IsMember {X = ℕ × ℕ} (i, x) (map (λ k. (k, n)) (upto n))) (sym e) (in_map (λ k. (k, n)) i (upto n) (in_upto n i (omega arith)))))
+          in_right (i, j) (pairs_below n) (map (λ k. (k, n)) (upto n))
+          (subst (λ x. IsMember {X = ℕ × ℕ} (i, x) (map (λ k. (k, n)) (upto n))) (sym e)
+          (in_map (λ k. (k, n)) i (upto n) (in_upto n i (omega arith)))))
     ]
 
 pub pairs_in : (n : ℕ) (q : ℕ × ℕ) → IsMember q (pairs_below n) → (q.0 < q.1) × (q.1 < n)

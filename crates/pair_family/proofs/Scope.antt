@@ -11,10 +11,12 @@ use Rattle.heap_formula.specs.Symbolic.{SymbolicHeap}
 use Rattle.heap_formula.specs.Words.{Each, max_of}
 use Rattle.heap_formula.specs.Closedness.{InPure, InSpatial, InHeap}
 use Rattle.pair_family.specs.BasePairs.{BasePair, element}
-use Rattle.pair_family.specs.Combination.{Two, Choice, next, pure_equations, pure_differences, atom_equations, atom_differences, atom_addresses, spatial_equations, spatial_differences, addresses, each_two, cell_differences, against_nil, combination, all_differ}
+use Rattle.pair_family.specs.Combination.{Two, Choice, next, pure_equations, pure_differences, atom_equations}
+use Rattle.pair_family.specs.Combination.{atom_differences, atom_addresses, spatial_equations, spatial_differences}
+use Rattle.pair_family.specs.Combination.{addresses, each_two, cell_differences, against_nil, combination, all_differ}
 use Rattle.pair_family.specs.Folding.{spoken}
 use Rattle.pair_family.proofs.Lists.{in_append, map_in}
-use Rattle.list_facts.specs.Words.{IsMember}
+use Rattle.cyc_basics.specs.Words.{IsMember}
 use Rattle.pair_family.proofs.Two.{two_in}
 use Rattle.heap_formula.specs.Fresh.{number_bound, terms_numbers, pure_numbers, spatial_numbers, heap_numbers}
 
@@ -28,20 +30,24 @@ module _ (Q : Term → Type 0) (nil : Q Nil) where
   abbrev pub BothIn : Two → Type 0
   BothIn q = Q q.0 × Q q.1
 
-  arguments_in : (ts : List Term) → Each Q ts → (qs : List (ℕ × ℕ)) (q : Two) → IsMember q (map (λ q. (element ts q.0, element ts q.1)) qs) → BothIn q
+  arguments_in : (ts : List Term) → Each Q ts → (qs : List (ℕ × ℕ)) (q : Two)
+      → IsMember q (map (λ q. (element ts q.0, element ts q.1)) qs) → BothIn q
   arguments_in ts a qs q m =
       let r = map_in (λ q. (element ts q.0, element ts q.1)) q qs m in
       subst (λ z. Q z.0 × Q z.1) r.2 (element_in ts a r.0.0, element_in ts a r.0.1)
 
-  pub atom_equations_in : (x : Spatial) → Each Q (spoken x) → (b : BasePair) (q : Two) → IsMember q (atom_equations b x) → BothIn q
+  pub atom_equations_in : (x : Spatial) → Each Q (spoken x) → (b : BasePair) (q : Two) → IsMember q (atom_equations b x)
+      → BothIn q
   atom_equations_in (Cell t ts) a b q m = absurd m
   atom_equations_in (Pred p ts) a b q m = arguments_in ts a b.same q m
 
-  pub atom_differences_in : (x : Spatial) → Each Q (spoken x) → (b : BasePair) (q : Two) → IsMember q (atom_differences b x) → BothIn q
+  pub atom_differences_in : (x : Spatial) → Each Q (spoken x) → (b : BasePair) (q : Two)
+      → IsMember q (atom_differences b x) → BothIn q
   atom_differences_in (Cell t ts) a b q m = absurd m
   atom_differences_in (Pred p ts) a b q m = arguments_in ts a b.differ q m
 
-  pub atom_addresses_in : (x : Spatial) → Each Q (spoken x) → (b : BasePair) (t : Term) → IsMember t (atom_addresses b x) → Q t
+  pub atom_addresses_in : (x : Spatial) → Each Q (spoken x) → (b : BasePair) (t : Term)
+      → IsMember t (atom_addresses b x) → Q t
   atom_addresses_in (Cell t ts) a b u (inl r) = subst Q r a.0
   atom_addresses_in (Cell t ts) a b u (inr m) = absurd m
   atom_addresses_in (Pred p ts) a b u m = let r = map_in (element ts) u b.cells m in subst Q r.2 (element_in ts a r.0)
@@ -50,20 +56,32 @@ module _ (Q : Term → Type 0) (nil : Q Nil) where
   spoken_in (Cell t ts) a = (a.0, tt)
   spoken_in (Pred p ts) a = a
 
-  spatial_equations_in : (xs : List Spatial) → Each (InSpatial Q) xs → (bs : Choice) (q : Two) → IsMember q (spatial_equations bs xs) → BothIn q
+  spatial_equations_in : (xs : List Spatial) → Each (InSpatial Q) xs → (bs : Choice) (q : Two)
+      → IsMember q (spatial_equations bs xs) → BothIn q
   spatial_equations_in [] a bs q m = absurd m
   spatial_equations_in (x ∷ xs) a bs q m =
-      elim (in_append q (atom_equations (bs 0) x) (spatial_equations (next bs) xs) m) [ inl i ↦ atom_equations_in x (spoken_in x a.0) (bs 0) q i | inr i ↦ spatial_equations_in xs a.1 (next bs) q i ]
+      elim (in_append q (atom_equations (bs 0) x) (spatial_equations (next bs) xs) m) [
+        | inl i ↦ atom_equations_in x (spoken_in x a.0) (bs 0) q i
+        | inr i ↦ spatial_equations_in xs a.1 (next bs)
+            q i
+      ]
 
-  spatial_differences_in : (xs : List Spatial) → Each (InSpatial Q) xs → (bs : Choice) (q : Two) → IsMember q (spatial_differences bs xs) → BothIn q
+  spatial_differences_in : (xs : List Spatial) → Each (InSpatial Q) xs → (bs : Choice) (q : Two)
+      → IsMember q (spatial_differences bs xs) → BothIn q
   spatial_differences_in [] a bs q m = absurd m
   spatial_differences_in (x ∷ xs) a bs q m =
-      elim (in_append q (atom_differences (bs 0) x) (spatial_differences (next bs) xs) m) [ inl i ↦ atom_differences_in x (spoken_in x a.0) (bs 0) q i | inr i ↦ spatial_differences_in xs a.1 (next bs) q i ]
+      elim (in_append q (atom_differences (bs 0) x) (spatial_differences (next bs) xs) m) [
+        | inl i ↦ atom_differences_in x (spoken_in x a.0) (bs 0) q i
+        | inr i ↦ spatial_differences_in xs a.1 (next bs)
+            q i
+      ]
 
-  pub addresses_in : (xs : List Spatial) → Each (InSpatial Q) xs → (bs : Choice) (t : Term) → IsMember t (addresses bs xs) → Q t
+  pub addresses_in : (xs : List Spatial) → Each (InSpatial Q) xs → (bs : Choice) (t : Term)
+      → IsMember t (addresses bs xs) → Q t
   addresses_in [] a bs t m = absurd m
   addresses_in (x ∷ xs) a bs t m =
-      elim (in_append t (atom_addresses (bs 0) x) (addresses (next bs) xs) m) [ inl i ↦ atom_addresses_in x (spoken_in x a.0) (bs 0) t i | inr i ↦ addresses_in xs a.1 (next bs) t i ]
+      elim (in_append t (atom_addresses (bs 0) x) (addresses (next bs) xs) m)
+      [ inl i ↦ atom_addresses_in x (spoken_in x a.0) (bs 0) t i | inr i ↦ addresses_in xs a.1 (next bs) t i ]
 
   pure_equations_in : (ps : List Pure) → Each (InPure Q) ps → (q : Two) → IsMember q (pure_equations ps) → BothIn q
   pure_equations_in [] a q m = absurd m
@@ -77,11 +95,14 @@ module _ (Q : Term → Type 0) (nil : Q Nil) where
   pure_differences_in (Neq t u ∷ ps) a q (inr m) = pure_differences_in ps a.1 q m
   pure_differences_in (Eq t u ∷ ps) a q m = pure_differences_in ps a.1 q m
 
-  pub equations_in : (a : SymbolicHeap) → InHeap Q a → (bs : Choice) (q : Two) → IsMember q (combination bs a).equal → Q q.0 × Q q.1
+  pub equations_in : (a : SymbolicHeap) → InHeap Q a → (bs : Choice) (q : Two) → IsMember q (combination bs a).equal
+      → Q q.0 × Q q.1
   equations_in a o bs q m =
-      elim (in_append q (pure_equations a.pure) (spatial_equations bs a.spatial) m) [ inl i ↦ pure_equations_in a.pure o.0 q i | inr i ↦ spatial_equations_in a.spatial o.1 bs q i ]
+      elim (in_append q (pure_equations a.pure) (spatial_equations bs a.spatial) m)
+      [ inl i ↦ pure_equations_in a.pure o.0 q i | inr i ↦ spatial_equations_in a.spatial o.1 bs q i ]
 
-  pub differences_in : (a : SymbolicHeap) → InHeap Q a → (bs : Choice) (q : Two) → IsMember q (all_differ (combination bs a)) → Q q.0 × Q q.1
+  pub differences_in : (a : SymbolicHeap) → InHeap Q a → (bs : Choice) (q : Two)
+      → IsMember q (all_differ (combination bs a)) → Q q.0 × Q q.1
   differences_in a o bs q m =
       let cs = addresses bs a.spatial in
       elim (in_append q (combination bs a).differ (cell_differences cs) m) [
@@ -90,8 +111,12 @@ module _ (Q : Term → Type 0) (nil : Q Nil) where
           | inr i ↦ spatial_differences_in a.spatial o.1 bs q i
         ]
         | inr j ↦ elim (in_append q (against_nil cs) (each_two cs) j) [
-          | inl i ↦ (let r = map_in (λ t. (t, Nil)) q cs i in subst (λ z. Q z.0 × Q z.1) r.2 (addresses_in a.spatial o.1 bs r.0 r.1, nil))
-          | inr i ↦ (let r = two_in q cs i in (addresses_in a.spatial o.1 bs q.0 r.0, addresses_in a.spatial o.1 bs q.1 r.1))
+          | inl i ↦ (let r = map_in (λ t. (t, Nil)) q cs i in
+              subst (λ z. Q z.0 × Q z.1) r.2 (addresses_in a.spatial o.1 bs r.0 r.1, nil))
+          | inr i ↦ (let r = two_in q cs i in (
+            addresses_in a.spatial o.1 bs q.0 r.0,
+            addresses_in a.spatial o.1 bs q.1 r.1,
+          ))
         ]
       ]
 
@@ -131,11 +156,17 @@ pures_within m (Neq t u ∷ ps) h = ((omega arith, omega arith), pures_within m 
 
 spatials_within : (m : ℕ) (xs : List Spatial) → max_of (map spatial_numbers xs) ≤ m → Each (InSpatial (IsWithin m)) xs
 spatials_within m [] h = tt
-spatials_within m (Cell t ts ∷ xs) h = ((omega arith, terms_within m ts (omega arith)), spatials_within m xs (omega arith))
+spatials_within m (Cell t ts ∷ xs) h = (
+  (omega arith, terms_within m ts (omega arith)),
+  spatials_within m xs (omega arith),
+)
 spatials_within m (Pred p ts ∷ xs) h = (terms_within m ts (omega arith), spatials_within m xs (omega arith))
 
 pub heap_within : (a : SymbolicHeap) → InHeap (IsWithin (heap_numbers a)) a
-heap_within a = (pures_within (heap_numbers a) a.pure (omega arith), spatials_within (heap_numbers a) a.spatial (omega arith))
+heap_within a = (
+  pures_within (heap_numbers a) a.pure (omega arith),
+  spatials_within (heap_numbers a) a.spatial (omega arith),
+)
 
 -- ---- bounds of lists
 

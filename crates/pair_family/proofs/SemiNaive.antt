@@ -17,7 +17,17 @@ by_chosen F bs [] c = tt
 by_chosen F bs (x ∷ xs) c = (c.0, by_chosen F (next bs) xs c.1)
 
 pub case_by : (F : PairFamily) (k : ℕ) (b : BasePair) (a : SymbolicHeap) → CaseGives F k b a → GivesBy (λ i. F) k b a
-case_by F k b a c = record { chosen = c.chosen; from_families = chosen_by F c.chosen a.spatial c.from_family; consistent = c.consistent; projected = c.projected }
+case_by F k b a c = record {
+  chosen = c.chosen;
+  from_families = chosen_by F c.chosen a.spatial c.from_family;
+  consistent = c.consistent;
+  projected = c.projected;
+}
 
 pub by_case : (F : PairFamily) (k : ℕ) (b : BasePair) (a : SymbolicHeap) → GivesBy (λ i. F) k b a → CaseGives F k b a
-by_case F k b a c = record { chosen = c.chosen; from_family = by_chosen F c.chosen a.spatial c.from_families; consistent = c.consistent; projected = c.projected }
+by_case F k b a c = record {
+  chosen = c.chosen;
+  from_family = by_chosen F c.chosen a.spatial c.from_families;
+  consistent = c.consistent;
+  projected = c.projected;
+}

@@ -85,7 +85,11 @@ abbrev pub atom_facts : BasePair → Spatial → Facts
 atom_facts b x = record { equal = atom_equations b x; differ = atom_differences b x; cells = atom_addresses b x }
 
 abbrev pub list_facts : Choice → List Spatial → Facts
-list_facts bs xs = record { equal = spatial_equations bs xs; differ = spatial_differences bs xs; cells = addresses bs xs }
+list_facts bs xs = record {
+  equal = spatial_equations bs xs;
+  differ = spatial_differences bs xs;
+  cells = addresses bs xs;
+}
 
 -- what a heap says with one base pair for each of its predicate atoms
 abbrev pub combination : Choice → SymbolicHeap → Facts
@@ -123,7 +127,8 @@ pairs_below (suc j) = pairs_below j ++ map (λ i. (i, j)) (upto j)
 
 -- the difference joins the classes of i and j, in one order or the other
 abbrev pub is_between : (Term → ℕ) → (ℕ → Term) → ℕ → ℕ → Two → Bool
-is_between f at i j q = (nat_eq (f q.0) (f (at i)) && nat_eq (f q.1) (f (at j))) || (nat_eq (f q.0) (f (at j)) && nat_eq (f q.1) (f (at i)))
+is_between f at i j q = (nat_eq (f q.0) (f (at i)) && nat_eq (f q.1) (f (at j))) ||
+    (nat_eq (f q.0) (f (at j)) && nat_eq (f q.1) (f (at i)))
 
 abbrev pub is_in_class : (Term → ℕ) → (ℕ → Term) → ℕ → Term → Bool
 is_in_class f at i t = nat_eq (f t) (f (at i))

@@ -49,7 +49,8 @@ spoken (Pred p ts) = ts
 abbrev pub AreFrames : Frames → List Spatial → Type 0
 AreFrames frames [] = Unit {0}
 AreFrames frames (x ∷ xs) =
-    IsKept (frames 0) Nil × Each (IsKept (frames 0)) (spoken x) × ((i : ℕ) → i ≤ (frames 1).count → IsKept (frames 0) ((frames 1).at i)) × AreFrames (next_frames frames) xs
+    IsKept (frames 0) Nil × Each (IsKept (frames 0)) (spoken x)
+    × ((i : ℕ) → i ≤ (frames 1).count → IsKept (frames 0) ((frames 1).at i)) × AreFrames (next_frames frames) xs
 
 abbrev pub said_in : Frame → Facts → BasePair
 said_in frame x = said frame.count frame.at x
@@ -62,4 +63,5 @@ with_atom frame b c x = both (stated frame.at b) (atom_facts c x)
 abbrev pub FoldsTo : Frames → BasePair → Choice → List Spatial → BasePair → Type 0
 FoldsTo frames b bs [] d = d ≡ b
 FoldsTo frames b bs (x ∷ xs) d =
-    AreConsistent (with_atom (frames 0) b (bs 0) x) × FoldsTo (next_frames frames) (said_in (frames 1) (with_atom (frames 0) b (bs 0) x)) (next bs) xs d
+    AreConsistent (with_atom (frames 0) b (bs 0) x)
+    × FoldsTo (next_frames frames) (said_in (frames 1) (with_atom (frames 0) b (bs 0) x)) (next bs) xs d

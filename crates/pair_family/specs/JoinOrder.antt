@@ -1,5 +1,7 @@
--- The order in which the atoms of a symbolic heap are taken, as the tables of a join are ordered: always one of least cost.
-use Rattle.std.specs.Prelude.{ℕ, zero, suc, List, [], ◌∷◌, ◌++◌, map, length, Bool, false, not, ◌&&◌, ◌||◌, nat_eq, nat_lt, nat_le, if◌then◌else◌, count_by, slice_index_or}
+-- The order in which the atoms of a symbolic heap are taken, as the tables of a join are ordered: always one of least
+-- cost.
+use Rattle.std.specs.Prelude.{ℕ, zero, suc, List, [], ◌∷◌, ◌++◌, map, length, Bool, false, not, ◌&&◌, ◌||◌, nat_eq}
+use Rattle.std.specs.Prelude.{nat_lt, nat_le, if◌then◌else◌, count_by, slice_index_or}
 use Rattle.std.specs.List.{list_any, remove}
 use Rattle.heap_formula.specs.declared.terms.Term.{Term}
 use Rattle.heap_formula.specs.declared.terms.Term.TheVariants.{Nil, Univ, Exist}
@@ -48,7 +50,8 @@ first_least least best i (c ∷ cs) =
 -- the place of the atom to be taken next
 abbrev pub cheapest : ℕ → List Spatial → List Spatial → ℕ
 cheapest k taken [] = 0
-cheapest k taken (x ∷ left) = first_least (cost_of k taken (x ∷ left) x) 0 0 (map (cost_of k taken (x ∷ left)) (x ∷ left))
+cheapest k taken (x ∷ left) = first_least (cost_of k taken (x ∷ left) x) 0 0
+    (map (cost_of k taken (x ∷ left)) (x ∷ left))
 
 abbrev pub atom_at : List Spatial → ℕ → Spatial
 atom_at xs i = slice_index_or xs i (Pred 0 [])

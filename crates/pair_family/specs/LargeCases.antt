@@ -35,7 +35,8 @@ first_atoms n ps xs = record { pure = ps; spatial = take n xs }
 
 -- d is what a consistent combination of the pure atoms and the first n of the spatial ones says of the terms that are
 -- kept then: nil, k parameters, and the terms of the atoms that are still to come
-pub record IsStateAfter (F : PairFamily) (k : ℕ) (ps : List Pure) (xs : List Spatial) (n : ℕ) (d : BasePair) : Type 0 where
+pub record IsStateAfter (F : PairFamily) (k : ℕ) (ps : List Pure) (xs : List Spatial) (n : ℕ) (d : BasePair)
+    : Type 0 where
   pub chosen : Choice
   pub from_family : IsChosen F chosen (take n xs)
   pub consistent : AreConsistent (combination chosen (first_atoms n ps xs))

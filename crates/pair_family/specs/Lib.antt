@@ -12,3 +12,5 @@ pub mod States
 pub mod Reordering
 pub mod JoinOrder
 pub mod LargeCases
+pub mod Equality
+pub mod Labels

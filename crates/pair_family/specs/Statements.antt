@@ -14,4 +14,5 @@ abbrev pub IsSatisfiable : List Definition → SymbolicHeap → Type 0
 IsSatisfiable ds a = (s : Stack) × (h : Cells) × Satisfies ds s h a
 
 abbrev pub CombinableIsSatisfiable : Type 0
-CombinableIsSatisfiable = (ds : List Definition) (a : SymbolicHeap) → AreCases ds → Each HasFields a.spatial → IsCombinable ds a ↔ IsSatisfiable ds a
+CombinableIsSatisfiable = (ds : List Definition) (a : SymbolicHeap) → AreCases ds → Each HasFields a.spatial
+    → IsCombinable ds a ↔ IsSatisfiable ds a

@@ -7,7 +7,7 @@ use Rattle.pair_family.specs.BasePairs.{BasePair}
 use Rattle.pair_family.specs.Combination.{Choice, next, AreConsistent, IsConsistent, projection}
 use Rattle.pair_family.specs.Family.{PairFamily, IsChosenAt}
 use Rattle.pair_family.specs.Folding.{Frame, Frames, FoldsTo, next_frames, said_in, with_atom}
-use Rattle.list_facts.specs.Words.{IsMember}
+use Rattle.cyc_basics.specs.Words.{IsMember}
 
 -- a family for each place of a spatial list
 abbrev pub Families : Type 1
@@ -30,7 +30,8 @@ pub record GivesBy (Fs : Families) (k : ℕ) (b : BasePair) (a : SymbolicHeap) :
 
 -- b leads to d over one atom, with some base pair of F
 abbrev pub Leads : PairFamily → Frame → Frame → Spatial → BasePair → BasePair → Type 0
-Leads F frame after x d b = (c : BasePair) × IsChosenAt F c x × AreConsistent (with_atom frame b c x) × (d ≡ said_in after (with_atom frame b c x))
+Leads F frame after x d b = (c : BasePair) × IsChosenAt F c x × AreConsistent (with_atom frame b c x)
+    × (d ≡ said_in after (with_atom frame b c x))
 
 -- one of these states leads to d over the atoms, with base pairs of the places' families
 abbrev pub IsReached : Families → Frames → List BasePair → List Spatial → BasePair → Type 0
@@ -41,4 +42,6 @@ IsReached Fs frames states xs d =
 abbrev pub AreStates : Families → Frames → List BasePair → List Spatial → List BasePair → Type 0
 AreStates Fs frames states [] out = (d : BasePair) → IsMember d out ↔ IsMember d states
 AreStates Fs frames states (x ∷ xs) out =
-    (after : List BasePair) × ((d : BasePair) → IsMember d after ↔ OneOf (Leads (Fs 0) (frames 0) (frames 1) x d) states) × AreStates (next_families Fs) (next_frames frames) after xs out
+    (after : List BasePair) × ((d : BasePair) → IsMember d after
+    ↔ OneOf (Leads (Fs 0) (frames 0) (frames 1) x d) states)
+    × AreStates (next_families Fs) (next_frames frames) after xs out

@@ -1,20 +1,25 @@
 -- What is taken of bytes stays as it is, whatever bytes come.
-use Rattle.std.proofs.Common.{◌≡◌, ℕ, zero, suc, ◌+◌, ◌-◌, ◌<◌, ◌≤◌, Bool, true, false, cond, List, [], ◌∷◌, ◌++◌, length, take, drop, Option, Some, None, refl, sym, ap, subst, ◌∙◌, arith, inl, inr, ⊎_elim, append_assoc, length-append, eqb-true}
+use Rattle.std.proofs.Common.{◌≡◌, ℕ, zero, suc, ◌+◌, ◌-◌, ◌<◌, ◌≤◌, Bool, true, false, cond, List, [], ◌∷◌, ◌++◌}
+use Rattle.std.proofs.Common.{length, take, drop, Option, Some, None, refl, sym, ap, subst, ◌∙◌, arith, inl, inr}
+use Rattle.std.proofs.Common.{⊎_elim, append_assoc, length-append, eqb-true}
 use Rattle.std.specs.Prelude.{◌==◌, is_none}
 use Rattle.std.specs.Str.{chars, encode_utf8_all, all_scalars, IsUtf8}
 use Rattle.std.specs.Str.Lossy.{utf8_valid_len, utf8_error_len}
 use Rattle.std.proofs.lemmas.Bool.{cases_Bool, eq-eqb, ne_eqb, both_ways}
 use Rattle.std.proofs.lemmas.List.{take_at, take_all, take-append-drop, append-nil}
-use Rattle.std.proofs.lemmas.Str.{chars-encodes, chars-append, encodes-append, encodes-chars, scalars-chars, utf8_valid_len-IsUtf8}
+use Rattle.std.proofs.lemmas.Str.{chars-encodes, chars-append, encodes-append, encodes-chars, scalars-chars}
+use Rattle.std.proofs.lemmas.Str.{utf8_valid_len-IsUtf8}
 use Rattle.cyc_lex.specs.declared.place.Place.{Place}
 use Rattle.cyc_lex.specs.Lexing.{pass_all, piece_at, ended, lex}
-use Rattle.piecewise_lex.specs.Feeding.{is_held, taken_chars, held_chars, ends_in_comment, tokens_taken, valid_chars, after_valid, is_cut, tokens_from, waiting_in, taken_in, comment_after}
+use Rattle.piecewise_lex.specs.Feeding.{is_held, taken_chars, held_chars, ends_in_comment, tokens_taken, valid_chars}
+use Rattle.piecewise_lex.specs.Feeding.{after_valid, is_cut, tokens_from, waiting_in, taken_in, comment_after}
 use Rattle.cyc_lex.specs.Lexing.{comment_len}
 use Rattle.cyc_lex.proofs.Pieces.{scalars-parts}
 use Rattle.cyc_lex.proofs.Lexed.{Found}
 use Rattle.piecewise_lex.proofs.Carrying.{Agrees, IsSkip, then_tokens, Carries, carry}
 use Rattle.cyc_lex.proofs.Pieces.{comment_len-true, comment_len-false}
-use Rattle.piecewise_lex.proofs.Utf8Cuts.{valid-front, valid-append, valid-tail, stays-bad, take-behind, take-within, error-nil}
+use Rattle.piecewise_lex.proofs.Utf8Cuts.{valid-front, valid-append, valid-tail, stays-bad, take-behind, take-within}
+use Rattle.piecewise_lex.proofs.Utf8Cuts.{error-nil}
 use Rattle.std.proofs.str.Laws.{order}
 
 -- ---- characters of bytes
@@ -22,7 +27,8 @@ use Rattle.std.proofs.str.Laws.{order}
 shift-test : (n a b : ℕ) → (n + a == n + b) ≡ (a == b)
 shift-test n a b = ⊎_elim
     (λ (yes : (a == b) ≡ true). eq-eqb (n + a) (n + b) (ap (λ k. n + k) (eqb-true a b yes)) ∙ sym yes)
-    (λ (no : (a == b) ≡ false). ne_eqb (n + a) (n + b) (λ e. both_ways (a == b) no (eq-eqb a b (omega (arith, e)))) ∙ sym no)
+    (λ (no : (a == b) ≡ false). ne_eqb (n + a) (n + b) (λ e. both_ways (a == b) no (eq-eqb a b (omega (arith, e))))
+    ∙ sym no)
     (cases_Bool (a == b))
 
 -- whether all of the bytes are characters
@@ -50,7 +56,8 @@ pub chars-of-text : (xs : List ℕ) → all_scalars xs ≡ true → valid_chars 
 unfolding valid_chars
 chars-of-text xs good =
     let n-is = utf8_valid_len-IsUtf8 (encode_utf8_all xs) (xs, (good, refl)) in
-    ap chars (take_all (utf8_valid_len (encode_utf8_all xs)) (encode_utf8_all xs) (omega (arith, n-is))) ∙ chars-encodes xs good
+    ap chars (take_all (utf8_valid_len (encode_utf8_all xs)) (encode_utf8_all xs) (omega (arith, n-is)))
+    ∙ chars-encodes xs good
 
 pub whole-of-text : (xs : List ℕ) → all_scalars xs ≡ true → is_whole (encode_utf8_all xs) ≡ true
 whole-of-text xs good = eq-eqb _ _ (utf8_valid_len-IsUtf8 (encode_utf8_all xs) (xs, (good, refl)))
@@ -61,7 +68,9 @@ valid-good bytes = scalars-chars (take (utf8_valid_len bytes) bytes) (valid-fron
 
 pub valid-parts : (bytes : List ℕ) → encode_utf8_all (valid_chars bytes) ++ after_valid bytes ≡ bytes
 unfolding valid_chars
-valid-parts bytes = ap (λ (t : List ℕ). t ++ after_valid bytes) (encodes-chars (take (utf8_valid_len bytes) bytes) (valid-front bytes)) ∙ take-append-drop (utf8_valid_len bytes) bytes
+valid-parts bytes = ap (λ (t : List ℕ). t ++ after_valid bytes)
+    (encodes-chars (take (utf8_valid_len bytes) bytes) (valid-front bytes))
+    ∙ take-append-drop (utf8_valid_len bytes) bytes
 
 pub taken-and-held : (k : ℕ) (cs : List ℕ) → taken_chars k cs ++ held_chars k cs ≡ cs
 unfolding taken_chars held_chars
@@ -69,7 +78,8 @@ taken-and-held k [] = refl
 taken-and-held (suc k) (c ∷ cs) = ap (λ (t : List ℕ). c ∷ t) (taken-and-held k cs)
 taken-and-held zero (c ∷ cs) = by_test (is_held c cs) (taken-and-held (piece_at c cs).1 cs)
   where
-    by_test : (b : Bool) → taken_chars (piece_at c cs).1 cs ++ held_chars (piece_at c cs).1 cs ≡ cs → cond b [] (c ∷ taken_chars (piece_at c cs).1 cs) ++ cond b (c ∷ cs) (held_chars (piece_at c cs).1 cs) ≡ c ∷ cs
+    by_test : (b : Bool) → taken_chars (piece_at c cs).1 cs ++ held_chars (piece_at c cs).1 cs ≡ cs
+        → cond b [] (c ∷ taken_chars (piece_at c cs).1 cs) ++ cond b (c ∷ cs) (held_chars (piece_at c cs).1 cs) ≡ c ∷ cs
     by_test true h = refl
     by_test false h = ap (λ (t : List ℕ). c ∷ t) h
 
@@ -113,21 +123,29 @@ module _ (comment : Bool) (bytes : List ℕ) where
   unfolding taken_in
   taken-cut h =
       let w = encode_utf8_all left ++ after_valid bytes in
-      let len : length bytes ≡ length (encode_utf8_all kept) + length w = ap length bytes-parts ∙ length-append (encode_utf8_all kept) w in
-      let n : length (encode_utf8_all kept) ≡ length bytes - length (waiting_in comment bytes) = omega (arith, len, ap length (waiting-cut h)) in
+      let len : length bytes ≡ length (encode_utf8_all kept) + length w = ap length bytes-parts
+      ∙ length-append (encode_utf8_all kept) w in
+      let n : length (encode_utf8_all kept) ≡ length bytes - length (waiting_in comment bytes) = omega
+      (arith, len, ap length (waiting-cut h)) in
       ap (take (length bytes - length (waiting_in comment bytes))) bytes-parts ∙ take_at (encode_utf8_all kept) w _ n
 
   pub taken-bad : is_cut bytes ≡ false → taken_in comment bytes ≡ bytes
   unfolding taken_in
-  taken-bad h = take_all (length bytes - length (waiting_in comment bytes)) bytes (omega (arith, ap length (waiting-bad h)))
+  taken-bad h = take_all (length bytes - length (waiting_in comment bytes)) bytes
+      (omega (arith, ap length (waiting-bad h)))
 
   -- z may stand where the characters that wait do
   skips : (z : List ℕ) → IsSkip comment skipped (comment_len comment (kept ++ z)) all_chars z
   skips z = by comment
     where
-      by : (b : Bool) → IsSkip b (comment_len b all_chars) (comment_len b (taken_chars (comment_len b all_chars) all_chars ++ z)) all_chars z
+      by : (b : Bool) → IsSkip b (comment_len b all_chars) (comment_len b
+          (taken_chars (comment_len b all_chars) all_chars ++ z)) all_chars z
       by true = (comment_len-true all_chars, comment_len-true (taken_chars (comment_len true all_chars) all_chars ++ z))
-      by false = (omega (arith, comment_len-false all_chars), comment_len-false (taken_chars (comment_len false all_chars) all_chars ++ z) ∙ sym (comment_len-false all_chars))
+      by false = (
+        omega (arith, comment_len-false all_chars),
+        comment_len-false (taken_chars (comment_len false all_chars) all_chars ++ z)
+            ∙ sym (comment_len-false all_chars),
+      )
 
   -- the tokens that are taken, and the place after them
   abbrev pub handed : Place → Found
@@ -147,7 +165,9 @@ module _ (comment : Bool) (bytes : List ℕ) where
   agrees-more [] z = tt
   agrees-more (h ∷ hs) z = inr (hs ++ z, refl)
 
-  carried : (whole : Bool) (p : Place) (z : List ℕ) → Agrees left z → lex whole p (comment_len comment (kept ++ z)) (kept ++ z) ≡ then_tokens (handed p) (lex whole (place_behind p) (comment_len goes z) z)
+  carried : (whole : Bool) (p : Place) (z : List ℕ) → Agrees left z
+      → lex whole p (comment_len comment (kept ++ z)) (kept ++ z)
+      ≡ then_tokens (handed p) (lex whole (place_behind p) (comment_len goes z) z)
   unfolding Carries
   carried whole p z h = carry whole p comment skipped (comment_len comment (kept ++ z)) all_chars z h (skips z)
 
@@ -157,31 +177,41 @@ module _ (comment : Bool) (bytes : List ℕ) where
   lex-nil p (suc k) = refl
 
   -- the bytes that are taken have these tokens, and then the end
-  pub taken-tokens : (p : Place) → is_cut bytes ≡ true → tokens_from p comment (taken_in comment bytes) ≡ then_tokens (handed p) (ended true (place_behind p))
+  pub taken-tokens : (p : Place) → is_cut bytes ≡ true
+      → tokens_from p comment (taken_in comment bytes) ≡ then_tokens (handed p) (ended true (place_behind p))
   unfolding tokens_from
   taken-tokens p h =
       ap (tokens_from p comment) (taken-cut h)
-      ∙ ap (λ (cs : List ℕ). lex (is_whole (encode_utf8_all kept)) p (comment_len comment cs) cs) (chars-of-text kept good-parts.0 ∙ sym (append-nil kept))
+      ∙ ap (λ (cs : List ℕ). lex (is_whole (encode_utf8_all kept)) p (comment_len comment cs) cs)
+      (chars-of-text kept good-parts.0 ∙ sym (append-nil kept))
       ∙ ap (λ b. lex b p (comment_len comment (kept ++ [])) (kept ++ [])) (whole-of-text kept good-parts.0)
       ∙ carried true p [] (agrees-nil left)
       ∙ ap (then_tokens (handed p)) (lex-nil (place_behind p) (comment_len goes []))
 
   -- more bytes leave them as they are
-  pub more-bytes : (p : Place) (rest : List ℕ) → is_cut bytes ≡ true → tokens_from p comment (bytes ++ rest) ≡ then_tokens (handed p) (tokens_from (place_behind p) (comment_after comment bytes) (waiting_in comment bytes ++ rest))
+  pub more-bytes : (p : Place) (rest : List ℕ) → is_cut bytes ≡ true
+      → tokens_from p comment (bytes ++ rest) ≡ then_tokens (handed p)
+      (tokens_from (place_behind p) (comment_after comment bytes) (waiting_in comment bytes ++ rest))
   unfolding tokens_from comment_after all_chars
   more-bytes p rest h =
       let w = encode_utf8_all left ++ after_valid bytes in
       let x = w ++ rest in
       let z = valid_chars x in
-      let parts : bytes ++ rest ≡ encode_utf8_all kept ++ x = ap (λ (t : List ℕ). t ++ rest) bytes-parts ∙ append_assoc (encode_utf8_all kept) w rest in
-      let begins : x ≡ encode_utf8_all left ++ (after_valid bytes ++ rest) = append_assoc (encode_utf8_all left) (after_valid bytes) rest in
-      let here : z ≡ left ++ valid_chars (after_valid bytes ++ rest) = ap valid_chars begins ∙ chars-behind left (after_valid bytes ++ rest) good-parts.1 in
-      let near : Agrees left z = subst (Agrees left) (sym here) (agrees-more left (valid_chars (after_valid bytes ++ rest))) in
+      let parts : bytes ++ rest ≡ encode_utf8_all kept ++ x = ap (λ (t : List ℕ). t ++ rest) bytes-parts
+      ∙ append_assoc (encode_utf8_all kept) w rest in
+      let begins : x ≡ encode_utf8_all left ++ (after_valid bytes ++ rest) = append_assoc (encode_utf8_all left)
+      (after_valid bytes) rest in
+      let here : z ≡ left ++ valid_chars (after_valid bytes ++ rest) = ap valid_chars begins
+      ∙ chars-behind left (after_valid bytes ++ rest) good-parts.1 in
+      let near : Agrees left z = subst (Agrees left) (sym here)
+      (agrees-more left (valid_chars (after_valid bytes ++ rest))) in
       ap (tokens_from p comment) parts
-      ∙ ap (λ (cs : List ℕ). lex (is_whole (encode_utf8_all kept ++ x)) p (comment_len comment cs) cs) (chars-behind kept x good-parts.0)
+      ∙ ap (λ (cs : List ℕ). lex (is_whole (encode_utf8_all kept ++ x)) p (comment_len comment cs) cs)
+      (chars-behind kept x good-parts.0)
       ∙ ap (λ b. lex b p (comment_len comment (kept ++ z)) (kept ++ z)) (whole-behind kept x good-parts.0)
       ∙ carried (is_whole x) p z near
-      ∙ ap (λ (t : List ℕ). then_tokens (handed p) (tokens_from (place_behind p) (comment_after comment bytes) (t ++ rest))) (sym (waiting-cut h))
+      ∙ ap (λ (t : List ℕ). then_tokens (handed p)
+      (tokens_from (place_behind p) (comment_after comment bytes) (t ++ rest))) (sym (waiting-cut h))
 
 -- ---- bytes that go wrong
 
@@ -200,14 +230,17 @@ module _ (bytes rest : List ℕ) (bad : is_cut bytes ≡ false) where
       let tail = after_valid bytes in
       let k = is-bad (utf8_error_len tail) bad in
       let front = take n bytes in
-      let parts : bytes ++ rest ≡ front ++ (tail ++ rest) = ap (λ (t : List ℕ). t ++ rest) (sym (take-append-drop n bytes)) ∙ append_assoc front tail rest in
+      let parts : bytes ++ rest ≡ front ++ (tail ++ rest) = ap (λ (t : List ℕ). t ++ rest)
+      (sym (take-append-drop n bytes)) ∙ append_assoc front tail rest in
       let stays = stays-bad tail rest k.0 (valid-tail bytes) k.1 in
       let here = ap utf8_valid_len parts ∙ valid-append front (tail ++ rest) (valid-front bytes) in
       let there = ap utf8_valid_len (sym (take-append-drop n bytes)) ∙ valid-append front tail (valid-front bytes) in
       omega (arith, here, there, stays, valid-tail bytes)
 
   short : utf8_valid_len bytes < length bytes
-  short = ⊎_elim (λ (l : utf8_valid_len bytes < length bytes). l) (λ (m : length bytes ≤ utf8_valid_len bytes). absurd (by_nil (after_valid bytes) (drop-all (utf8_valid_len bytes) bytes m) bad)) (order (utf8_valid_len bytes) (length bytes))
+  short = ⊎_elim (λ (l : utf8_valid_len bytes < length bytes). l)
+      (λ (m : length bytes ≤ utf8_valid_len bytes). absurd (by_nil (after_valid bytes)
+      (drop-all (utf8_valid_len bytes) bytes m) bad)) (order (utf8_valid_len bytes) (length bytes))
     where
       drop-all : (n : ℕ) (xs : List ℕ) → length xs ≤ n → drop n xs ≡ []
       drop-all zero [] h = refl
@@ -216,7 +249,8 @@ module _ (bytes rest : List ℕ) (bad : is_cut bytes ≡ false) where
       drop-all (suc n) (x ∷ xs) h = let less : length xs ≤ n = omega (arith, h) in drop-all n xs less
 
       by_nil : (tail : List ℕ) → tail ≡ [] → is_none (utf8_error_len tail) ≡ false → ⊥
-      by_nil tail e f = both_ways (is_none (utf8_error_len tail)) f (ap (λ (t : List ℕ). is_none (utf8_error_len t)) e ∙ ap is_none error-nil)
+      by_nil tail e f = both_ways (is_none (utf8_error_len tail)) f
+          (ap (λ (t : List ℕ). is_none (utf8_error_len t)) e ∙ ap is_none error-nil)
 
   not-whole : is_whole bytes ≡ false
   not-whole = ne_eqb _ _ (λ e. omega (arith, e, short))
@@ -226,7 +260,8 @@ module _ (bytes rest : List ℕ) (bad : is_cut bytes ≡ false) where
 
   same-chars : valid_chars (bytes ++ rest) ≡ valid_chars bytes
   unfolding valid_chars
-  same-chars = ap (λ n. chars (take n (bytes ++ rest))) same-len ∙ ap chars (take-within (utf8_valid_len bytes) bytes rest (omega (arith, short)))
+  same-chars = ap (λ n. chars (take n (bytes ++ rest))) same-len
+      ∙ ap chars (take-within (utf8_valid_len bytes) bytes rest (omega (arith, short)))
 
   pub stays-tokens : (p : Place) (comment : Bool) → tokens_from p comment (bytes ++ rest) ≡ tokens_from p comment bytes
   unfolding tokens_from
@@ -235,6 +270,8 @@ module _ (bytes rest : List ℕ) (bad : is_cut bytes ≡ false) where
       ∙ ap (λ b. lex b p (comment_len comment (valid_chars bytes)) (valid_chars bytes)) (not-whole-more ∙ sym not-whole)
 
 -- the tokens of such bytes are those up to there, and then the fault
-pub bad-tokens : (p : Place) (comment : Bool) (bytes : List ℕ) → is_cut bytes ≡ false → tokens_from p comment bytes ≡ lex false p (comment_len comment (valid_chars bytes)) (valid_chars bytes)
+pub bad-tokens : (p : Place) (comment : Bool) (bytes : List ℕ) → is_cut bytes ≡ false
+    → tokens_from p comment bytes ≡ lex false p (comment_len comment (valid_chars bytes)) (valid_chars bytes)
 unfolding tokens_from
-bad-tokens p comment bytes bad = ap (λ b. lex b p (comment_len comment (valid_chars bytes)) (valid_chars bytes)) (not-whole bytes [] bad)
+bad-tokens p comment bytes bad = ap (λ b. lex b p (comment_len comment (valid_chars bytes)) (valid_chars bytes))
+    (not-whole bytes [] bad)

@@ -1,5 +1,6 @@
 -- A run waits, whatever comes, until a character does not go on it.
-use Rattle.std.proofs.Common.{◌≡◌, ℕ, ◌+◌, ◌≤◌, Bool, true, false, ◌&&◌, List, [], ◌∷◌, ◌++◌, length, take, drop, Option, Some, None, refl, sym, ap, subst, ◌∙◌, arith, append_assoc, length-append}
+use Rattle.std.proofs.Common.{◌≡◌, ℕ, ◌+◌, ◌≤◌, Bool, true, false, ◌&&◌, List, [], ◌∷◌, ◌++◌, length, take, drop}
+use Rattle.std.proofs.Common.{Option, Some, None, refl, sym, ap, subst, ◌∙◌, arith, append_assoc, length-append}
 use Rattle.std.specs.Prelude.{nat_le, is_none, is_some}
 use Rattle.std.specs.List.{list_all, prefix_len}
 use Rattle.std.specs.Str.{chars, IsUtf8}
@@ -17,8 +18,9 @@ use Rattle.cyc_lex.specs.Characters.{goes_on}
 use Rattle.cyc_lex.specs.Lexing.{piece_at, pass_all}
 use Rattle.cyc_lex.proofs.BoolParts.{and-parts}
 use Rattle.cyc_lex.proofs.Pieces.{comment_len-false}
-use Rattle.piecewise_lex.specs.declared.run.Known.{Known}
-use Rattle.piecewise_lex.specs.Feeding.{is_held, taken_chars, held_chars, ends_in_comment, tokens_taken, valid_chars, after_valid, is_cut}
+use Rattle.piecewise_lex.specs.declared.run.KnownText.{KnownText}
+use Rattle.piecewise_lex.specs.Feeding.{is_held, taken_chars, held_chars, ends_in_comment, tokens_taken, valid_chars}
+use Rattle.piecewise_lex.specs.Feeding.{after_valid, is_cut}
 use Rattle.piecewise_lex.specs.Runs.{Begins, IsRun, IsKnownRun, IsKnown, IsAllRun}
 use Rattle.piecewise_lex.specs.Taking.{Waits}
 use Rattle.piecewise_lex.proofs.Carrying.{taken-held, held-held, comment-held, tokens-held}
@@ -30,7 +32,8 @@ kind_of runs.Name = Name
 kind_of runs.Number = Number
 
 -- what begins a run is a token, as long as characters go on it
-begun-piece : (run : Run) (c : ℕ) (cs : List ℕ) → Begins run c → piece_at c cs ≡ (pieces.Token (kind_of run), prefix_len (goes_on run) cs)
+begun-piece : (run : Run) (c : ℕ) (cs : List ℕ) → Begins run c
+    → piece_at c cs ≡ (pieces.Token (kind_of run), prefix_len (goes_on run) cs)
 unfolding kind_of
 begun-piece runs.Comment c cs h = absurd h.2
 begun-piece runs.Name c cs h = rw (h.0, h.1, h.2) refl
@@ -48,7 +51,8 @@ unfolding is_held
 run-held run c cs h = rw (begun-piece run c cs h.0, all-prefix (goes_on run) cs h.1) (reaches (length cs))
 
 -- all of a run waits
-pub run-waits : (run : Run) (p : Place) (cs : List ℕ) → IsRun run cs → Waits (record { place = p; comment = false; chars = cs })
+pub run-waits : (run : Run) (p : Place) (cs : List ℕ) → IsRun run cs
+    → Waits (record { place = p; comment = false; chars = cs })
 unfolding pass_all
 run-waits run p [] h = absurd h
 run-waits run p (c ∷ cs) h =
@@ -61,7 +65,8 @@ run-waits run p (c ∷ cs) h =
       comment = ap (λ k. ends_in_comment false k (c ∷ cs)) none ∙ comment-held c cs false held;
     }
 
-all-append : (p : ℕ → Bool) (xs ys : List ℕ) → list_all p xs ≡ true → list_all p ys ≡ true → list_all p (xs ++ ys) ≡ true
+all-append : (p : ℕ → Bool) (xs ys : List ℕ) → list_all p xs ≡ true → list_all p ys ≡ true
+    → list_all p (xs ++ ys) ≡ true
 all-append p [] ys h k = k
 all-append p (x ∷ xs) ys h k = let t = and-parts (p x) (list_all p xs) h in rw (t.0, all-append p xs ys t.1 k) refl
 
@@ -74,18 +79,26 @@ unfolding valid_chars
 valid-is bytes = refl
 
 -- a run, and characters after it that go on it
-pub longer : (waiting piece tail bytes text : List ℕ) (known : Known) (new : Known) → IsKnownRun false waiting known → tail ≡ drop known.len waiting → bytes ≡ tail ++ piece → chars text ≡ valid_chars bytes → length text ≡ utf8_valid_len bytes → is_cut bytes ≡ true → list_all (goes_on known.run) (chars text) ≡ true
+pub longer : (waiting piece tail bytes text : List ℕ) (known : KnownText) (new : KnownText)
+    → IsKnownRun false waiting known → tail ≡ drop known.len waiting → bytes ≡ tail ++ piece
+    → chars text ≡ valid_chars bytes → length text ≡ utf8_valid_len bytes → is_cut bytes ≡ true
+    → list_all (goes_on known.run) (chars text) ≡ true
     → new.run ≡ known.run → new.len ≡ known.len + length text → IsAllRun (waiting ++ piece) new
 longer waiting piece tail bytes text known new h behind joined same size cut goes run len =
     let n = known.len in
     let front = take n waiting in
     let m = utf8_valid_len bytes in
-    let whole : waiting ++ piece ≡ front ++ bytes = ap (λ (w : List ℕ). w ++ piece) (sym (take-append-drop n waiting)) ∙ append_assoc front (drop n waiting) piece ∙ ap (λ (w : List ℕ). front ++ w) (ap (λ (w : List ℕ). w ++ piece) (sym behind) ∙ sym joined) in
+    let whole : waiting ++ piece ≡ front ++ bytes = ap (λ (w : List ℕ). w ++ piece) (sym (take-append-drop n waiting))
+    ∙ append_assoc front (drop n waiting) piece ∙ ap (λ (w : List ℕ). front ++ w)
+    (ap (λ (w : List ℕ). w ++ piece) (sym behind) ∙ sym joined) in
     let n-is : length front ≡ n = length-take-le n waiting h.within in
-    let valid : utf8_valid_len (waiting ++ piece) ≡ n + m = ap utf8_valid_len whole ∙ valid-append front bytes h.utf8 ∙ ap (λ k. k + m) n-is in
+    let valid : utf8_valid_len (waiting ++ piece) ≡ n + m = ap utf8_valid_len whole ∙ valid-append front bytes h.utf8
+    ∙ ap (λ k. k + m) n-is in
     let new-len : new.len ≡ length front + m = omega (arith, len, size, n-is) in
-    let taken : take new.len (waiting ++ piece) ≡ front ++ take m bytes = ap (take new.len) whole ∙ ap (λ k. take k (front ++ bytes)) new-len ∙ take-behind front bytes m in
-    let after : after_valid (waiting ++ piece) ≡ after_valid bytes = ap (λ k. drop k (waiting ++ piece)) valid ∙ ap (drop (n + m)) whole ∙ ap (λ k. drop (k + m) (front ++ bytes)) (sym n-is) ∙ drop-behind front bytes m in
+    let taken : take new.len (waiting ++ piece) ≡ front ++ take m bytes = ap (take new.len) whole
+    ∙ ap (λ k. take k (front ++ bytes)) new-len ∙ take-behind front bytes m in
+    let after : after_valid (waiting ++ piece) ≡ after_valid bytes = ap (λ k. drop k (waiting ++ piece)) valid
+    ∙ ap (drop (n + m)) whole ∙ ap (λ k. drop (k + m) (front ++ bytes)) (sym n-is) ∙ drop-behind front bytes m in
     let fits : m ≤ length bytes = utf8_valid_len_le bytes in
     record {
       front = record {
@@ -94,15 +107,18 @@ longer waiting piece tail bytes text known new h behind joined same size cut goe
         utf8 = subst IsUtf8 (sym taken) (IsUtf8-append front (take m bytes) h.utf8 (valid-front bytes));
         run = subst (λ (r : Run). IsRun r (chars (take new.len (waiting ++ piece)))) (sym run)
             (subst (IsRun known.run) (sym (ap chars taken ∙ chars-append front (take m bytes) h.utf8))
-            (run-append known.run (chars front) (chars (take m bytes)) h.run (ap (list_all (goes_on known.run)) (sym (valid-is bytes) ∙ sym same) ∙ goes)));
+            (run-append known.run (chars front) (chars (take m bytes)) h.run
+            (ap (list_all (goes_on known.run)) (sym (valid-is bytes) ∙ sym same) ∙ goes)));
       };
       cut = ap (λ (w : List ℕ). is_none (utf8_error_len w)) after ∙ cut;
       size = omega (arith, valid, len, size);
     }
 
-pub known-comment : (comment : Bool) (bytes : List ℕ) (known : Option Known) → IsKnown comment bytes known → is_some known ≡ true → comment ≡ false
+pub known-comment : (comment : Bool) (bytes : List ℕ) (known : Option KnownText) → IsKnown comment bytes known
+    → is_some known ≡ true → comment ≡ false
 known-comment comment bytes None h some = absurd cc
 known-comment comment bytes (Some known) h some = h.solid
 
-pub run-chars : (bytes : List ℕ) (known : Known) → IsAllRun bytes known → IsRun known.run (valid_chars bytes)
-run-chars bytes known h = subst (IsRun known.run) (sym (valid-is bytes ∙ ap (λ n. chars (take n bytes)) h.size)) h.front.run
+pub run-chars : (bytes : List ℕ) (known : KnownText) → IsAllRun bytes known → IsRun known.run (valid_chars bytes)
+run-chars bytes known h = subst (IsRun known.run) (sym (valid-is bytes ∙ ap (λ n. chars (take n bytes)) h.size))
+    h.front.run

@@ -1,5 +1,6 @@
 -- A token has at most 64 bytes.
-use Rattle.std.proofs.Common.{◌≡◌, ℕ, zero, suc, ◌<◌, ◌≤◌, Ok, ◌∙◌, ap, Bool, true, false, List, [], ◌∷◌, length, take, refl, sym, subst, arith, inl, inr}
+use Rattle.std.proofs.Common.{◌≡◌, ℕ, zero, suc, ◌<◌, ◌≤◌, Ok, ◌∙◌, ap, Bool, true, false, List, [], ◌∷◌, length, take}
+use Rattle.std.proofs.Common.{refl, sym, subst, arith, inl, inr}
 use Rattle.std.specs.Prelude.{map, nat_le, nat_lt, All}
 use Rattle.std.specs.Str.{encode_utf8_all, all_scalars, is_utf8, chars}
 use Rattle.std.specs.List.{AllByRecursion, list_all}
@@ -35,7 +36,43 @@ small-number s h =
 
 small-symbol : (s : List ℕ) → is_symbol_text s ≡ true → Small s
 unfolding is_symbol_text
-small-symbol s h = one-of Small symbols s (refl, (refl, (refl, (refl, (refl, (refl, (refl, (refl, (refl, (refl, (refl, (refl, (refl, (refl, (refl, (refl, (refl, (refl, (refl, (refl, tt)))))))))))))))))))) h
+small-symbol s h = one-of Small symbols s (
+  refl,
+  (
+    refl,
+    (
+      refl,
+      (
+        refl,
+        (
+          refl,
+          (
+            refl,
+            (
+              refl,
+              (
+                refl,
+                (
+                  refl,
+                  (
+                    refl,
+                    (
+                      refl,
+                      (
+                        refl,
+                        (refl, (refl, (refl, (refl, (refl, (refl, (refl, (refl, tt)))))))),
+                      ),
+                    ),
+                  ),
+                ),
+              ),
+            ),
+          ),
+        ),
+      ),
+    ),
+  ),
+) h
 
 small-lexeme : (k : Kind) (s : List ℕ) → is_lexeme (record { kind = k; text = s }) ≡ true → Small s
 small-lexeme Name s h = small-name s h
@@ -54,9 +91,11 @@ unplaced : (ts : List Token) → AllByRecursion Fits (map placed ts) → AllByRe
 unplaced [] h = tt
 unplaced (t ∷ ts) h = (h.0, unplaced ts h.1)
 
-short-lex : (whole : Bool) (p : Place) (k : ℕ) (cs : List ℕ) (ts : List Placed) → all_scalars cs ≡ true → lex whole p k cs ≡ found ts → AllByRecursion Fits ts
+short-lex : (whole : Bool) (p : Place) (k : ℕ) (cs : List ℕ) (ts : List Placed) → all_scalars cs ≡ true
+    → lex whole p k cs ≡ found ts → AllByRecursion Fits ts
 unfolding lex
-short-lex true p k [] ts good e = let same : token_at End p [] ∷ [] ≡ ts = cc in subst (AllByRecursion Fits) same (omega arith, tt)
+short-lex true p k [] ts good e = let same : token_at End p [] ∷ [] ≡ ts = cc in
+    subst (AllByRecursion Fits) same (omega arith, tt)
 short-lex false p k [] ts good e = absurd cc
 short-lex whole p (suc k) (c ∷ cs) ts good e = short-lex whole (pass p c) k cs ts (scalars-after c cs good) e
 short-lex whole p zero (c ∷ cs) ts good e =
@@ -64,23 +103,34 @@ short-lex whole p zero (c ∷ cs) ts good e =
     let bytes = encode_utf8_all (c ∷ take m.1 cs) in
     elim (taken-found m.0 p bytes (lex whole (pass p c) m.1 cs) ts e) [
       | inl f ↦ short-lex whole (pass p c) m.1 cs ts (scalars-after c cs good) f
-      | inr f ↦ subst (AllByRecursion Fits) (sym f.all) (small-fits (length bytes) (small-lexeme f.kind bytes (piece-lexeme p c cs good f.kind f.is f.short)), short-lex whole (pass p c) m.1 cs f.others (scalars-after c cs good) f.rest)
+      | inr f ↦ subst (AllByRecursion Fits) (sym f.all) (
+        small-fits (length bytes) (small-lexeme f.kind bytes (piece-lexeme p c cs good f.kind f.is f.short)),
+        short-lex whole (pass p c) m.1 cs f.others (scalars-after c cs good) f.rest,
+      )
     ]
 
 -- each token of a text is short
-pub short-all : (whole : Bool) (p : Place) (k : ℕ) (cs : List ℕ) (ts : List Token) → all_scalars cs ≡ true → lex whole p k cs ≡ found (map placed ts) → All IsShort ts
-short-all whole p k cs ts good e = All-from_recursion IsShort ts (unplaced ts (short-lex whole p k cs (map placed ts) good e))
+pub short-all : (whole : Bool) (p : Place) (k : ℕ) (cs : List ℕ) (ts : List Token) → all_scalars cs ≡ true
+    → lex whole p k cs ≡ found (map placed ts) → All IsShort ts
+short-all whole p k cs ts good e = All-from_recursion IsShort ts
+    (unplaced ts (short-lex whole p k cs (map placed ts) good e))
 
 -- a piece that is a token is a lexeme
-pub lexeme-piece : (p : Place) (cs : List ℕ) → all_scalars cs ≡ true → 0 < length cs → (k : Kind) → piece_of cs ≡ pieces.Token k → (front : List ℕ) → front ≡ encode_utf8_all (piece_chars cs) → len_fault k p front ≡ Ok tt → is_lexeme (record { kind = k; text = front }) ≡ true
+pub lexeme-piece : (p : Place) (cs : List ℕ) → all_scalars cs ≡ true → 0 < length cs → (k : Kind)
+    → piece_of cs ≡ pieces.Token k → (front : List ℕ) → front ≡ encode_utf8_all (piece_chars cs)
+    → len_fault k p front ≡ Ok tt → is_lexeme (record { kind = k; text = front }) ≡ true
 lexeme-piece p [] good some k is front same fits = absurd (omega (arith, some))
 lexeme-piece p (c ∷ cs) good some k is front same fits =
-    ap (λ (s : List ℕ). is_lexeme (record { kind = k; text = s })) same ∙ piece-lexeme p c cs good k is (ap (len_fault k p) (sym same) ∙ fits)
+    ap (λ (s : List ℕ). is_lexeme (record { kind = k; text = s })) same
+    ∙ piece-lexeme p c cs good k is (ap (len_fault k p) (sym same) ∙ fits)
 
 -- a piece that is a token is short
-pub short-piece : (p : Place) (cs : List ℕ) → all_scalars cs ≡ true → 0 < length cs → (k : Kind) → piece_of cs ≡ pieces.Token k → (front : List ℕ) → front ≡ encode_utf8_all (piece_chars cs) → len_fault k p front ≡ Ok tt → length front ≤ 64
+pub short-piece : (p : Place) (cs : List ℕ) → all_scalars cs ≡ true → 0 < length cs → (k : Kind)
+    → piece_of cs ≡ pieces.Token k → (front : List ℕ) → front ≡ encode_utf8_all (piece_chars cs)
+    → len_fault k p front ≡ Ok tt → length front ≤ 64
 short-piece p [] good some k is front same fits = absurd (omega (arith, some))
 short-piece p (c ∷ cs) good some k is front same fits =
     let bytes = encode_utf8_all (piece_chars (c ∷ cs)) in
-    let size = small-fits (length bytes) (small-lexeme k bytes (piece-lexeme p c cs good k is (ap (len_fault k p) (sym same) ∙ fits))) in
+    let size = small-fits (length bytes) (small-lexeme k bytes
+    (piece-lexeme p c cs good k is (ap (len_fault k p) (sym same) ∙ fits))) in
     omega (arith, size, ap length same)

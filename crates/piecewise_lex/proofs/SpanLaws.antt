@@ -1,5 +1,6 @@
 -- What a loop over tokens keeps.
-use Rattle.std.proofs.Common.{◌≡◌, ℕ, ◌+◌, ◌≤◌, Bool, true, false, List, [], ◌∷◌, ◌++◌, length, take, map, Some, None, Option, refl, sym, ap, subst, ◌∙◌, arith, length-append, append_assoc}
+use Rattle.std.proofs.Common.{◌≡◌, ℕ, ◌+◌, ◌≤◌, Bool, true, false, List, [], ◌∷◌, ◌++◌, length, take, map, Some, None}
+use Rattle.std.proofs.Common.{Option, refl, sym, ap, subst, ◌∙◌, arith, length-append, append_assoc}
 use Rattle.std.specs.List.{list_any}
 use Rattle.std.specs.Str.{encode_utf8_all, IsUtf8}
 use Rattle.std.proofs.lemmas.List.{take_at, map-append}
@@ -14,10 +15,12 @@ use Rattle.piecewise_lex.specs.declared.spans.Span.{Span}
 use Rattle.piecewise_lex.specs.Taking.{Reading, reading, cut_in, HasTaken, Waits, listed, IsTaken}
 use Rattle.piecewise_lex.specs.Spans.{is_semicolon, Ends, IsFront, IsSpan, front_tokens}
 use Rattle.piecewise_lex.proofs.TakingLaws.{taken-none}
-use Rattle.piecewise_lex.proofs.FrontLaws.{one-more, lexeme-one, fewer-bytes-left, none-left, all-wait, none-more-left, lexemes-more}
+use Rattle.piecewise_lex.proofs.FrontLaws.{one-more, lexeme-one, fewer-bytes-left, none-left, all-wait, none-more-left}
+use Rattle.piecewise_lex.proofs.FrontLaws.{lexemes-more}
 
 -- these tokens, so many, were passed
-pub record ArePassed (r : Reading) (ts : List Placed) (n : ℕ) (p : Place) (comment : Bool) (rest : List ℕ) : Type 0 where
+pub record ArePassed (r : Reading) (ts : List Placed) (n : ℕ) (p : Place) (comment : Bool) (rest : List ℕ)
+    : Type 0 where
   pub taken : HasTaken r ts (reading p comment rest)
   pub cut : cut_in r ≡ ts ++ cut_in (reading p comment rest)
   pub size : length ts ≡ n
@@ -38,13 +41,15 @@ pub record IsOn (r : Reading) (n : ℕ) (p : Place) (comment : Bool) (rest : Lis
   pub kept : AreKept ts n held
 
 -- none of them is a ';'
-pub record IsPassing (r : Reading) (n : ℕ) (p : Place) (comment : Bool) (rest : List ℕ) (held : List Token) : Type 0 where
+pub record IsPassing (r : Reading) (n : ℕ) (p : Place) (comment : Bool) (rest : List ℕ) (held : List Token)
+    : Type 0 where
   pub ts : List Placed
   pub passed : ArePassed r ts n p comment rest
   pub none : list_any is_semicolon ts ≡ false
   pub kept : AreKept ts n held
 
-none-passed-yet : (p : Place) (comment : Bool) (text : List ℕ) → HasRoom p (length text) → IsUtf8 text → ArePassed (reading p comment text) [] 0 p comment text
+none-passed-yet : (p : Place) (comment : Bool) (text : List ℕ) → HasRoom p (length text) → IsUtf8 text
+    → ArePassed (reading p comment text) [] 0 p comment text
 none-passed-yet p comment text room utf8 = record {
   taken = taken-none (reading p comment text);
   cut = refl;
@@ -58,10 +63,13 @@ none-passed-yet p comment text room utf8 = record {
 none-kept : (kept : List Token) → kept ≡ [] → AreKept [] 0 kept
 none-kept kept empty = record { few = omega (arith, ap length empty); all = λ _. ap (map placed) empty }
 
-pub on-start : (p : Place) (comment : Bool) (text : List ℕ) (kept : List Token) → HasRoom p (length text) → IsUtf8 text → kept ≡ [] → IsOn (reading p comment text) 0 p comment text kept
-on-start p comment text kept room utf8 empty = record { ts = []; passed = none-passed-yet p comment text room utf8; kept = none-kept kept empty }
+pub on-start : (p : Place) (comment : Bool) (text : List ℕ) (kept : List Token) → HasRoom p (length text) → IsUtf8 text
+    → kept ≡ [] → IsOn (reading p comment text) 0 p comment text kept
+on-start p comment text kept room utf8 empty = record
+    { ts = []; passed = none-passed-yet p comment text room utf8; kept = none-kept kept empty }
 
-pub passing-start : (p : Place) (comment : Bool) (text : List ℕ) (kept : List Token) → HasRoom p (length text) → IsUtf8 text → kept ≡ [] → IsPassing (reading p comment text) 0 p comment text kept
+pub passing-start : (p : Place) (comment : Bool) (text : List ℕ) (kept : List Token) → HasRoom p (length text)
+    → IsUtf8 text → kept ≡ [] → IsPassing (reading p comment text) 0 p comment text kept
 passing-start p comment text kept room utf8 empty = record {
   ts = [];
   passed = none-passed-yet p comment text room utf8;
@@ -70,33 +78,48 @@ passing-start p comment text kept room utf8 empty = record {
 }
 
 -- a token more, which is kept or not
-pub kept-more : (ts : List Placed) (token : Token) (n : ℕ) (kept new : List Token) → AreKept ts n kept → new ≡ kept ++ token ∷ [] → AreKept (ts ++ placed token ∷ []) (n + 1) new
+pub kept-more : (ts : List Placed) (token : Token) (n : ℕ) (kept new : List Token) → AreKept ts n kept
+    → new ≡ kept ++ token ∷ [] → AreKept (ts ++ placed token ∷ []) (n + 1) new
 kept-more ts token n kept new h is =
     let size : length new ≡ length kept + 1 = ap length is ∙ length-append kept (token ∷ []) in
     record {
       few = omega (arith, h.few, size);
-      all = λ whole. ap (map placed) is ∙ map-append placed kept (token ∷ []) ∙ ap (λ (us : List Placed). us ++ placed token ∷ []) (h.all (omega (arith, size, whole)));
+      all = λ whole. ap (map placed) is ∙ map-append placed kept (token ∷ [])
+          ∙ ap (λ (us : List Placed). us ++ placed token ∷ []) (h.all (omega (arith, size, whole)));
     }
 
-pub kept-no-more : (ts : List Placed) (token : Token) (n : ℕ) (kept : List Token) → AreKept ts n kept → AreKept (ts ++ placed token ∷ []) (n + 1) kept
-kept-no-more ts token n kept h = record { few = omega (arith, h.few); all = λ whole. absurd (omega (arith, h.few, whole)) }
+pub kept-no-more : (ts : List Placed) (token : Token) (n : ℕ) (kept : List Token) → AreKept ts n kept
+    → AreKept (ts ++ placed token ∷ []) (n + 1) kept
+kept-no-more ts token n kept h = record {
+  few = omega (arith, h.few);
+  all = λ whole. absurd (omega (arith, h.few, whole));
+}
 
-module _ (r : Reading) (ts : List Placed) (n : ℕ) (p : Place) (comment : Bool) (rest : List ℕ) (t : Taken) (h : ArePassed r ts n p comment rest) (step : IsTaken p comment rest t) where
+module _ (r : Reading) (ts : List Placed) (n : ℕ) (p : Place) (comment : Bool) (rest : List ℕ) (t : Taken)
+    (h : ArePassed r ts n p comment rest) (step : IsTaken p comment rest t) where
   abbrev before : Reading
   before = reading p comment rest
 
   abbrev after : Reading
   after = reading t.place t.comment t.rest.now
 
-  pub one-passed : (token : Token) → t.token ≡ Some token → ArePassed r (ts ++ placed token ∷ []) (n + 1) t.place t.comment t.rest.now
+  pub one-passed : (token : Token) → t.token ≡ Some token
+      → ArePassed r (ts ++ placed token ∷ []) (n + 1) t.place t.comment t.rest.now
   one-passed token is = record {
     taken = one-more r before rest t ts h.taken step.taken step.nearer token is;
-    cut = h.cut ∙ ap (λ us. ts ++ us) (step.cut ∙ ap (λ (o : Option Token). listed o ++ cut_in after) is) ∙ sym (append_assoc ts (placed token ∷ []) (cut_in after));
+    cut = h.cut ∙ ap (λ us. ts ++ us) (step.cut ∙ ap (λ (o : Option Token). listed o ++ cut_in after) is)
+        ∙ sym (append_assoc ts (placed token ∷ []) (cut_in after));
     size = omega (arith, h.size, length-append ts (placed token ∷ []));
     room = step.room;
     utf8 = step.utf8;
-    lexemes = lexemes-more ts (placed token) h.lexemes (lexeme-one r before rest t ts h.taken step.taken step.nearer token is);
-    count = omega (arith, h.count, ap length (encodes-chars rest h.utf8), fewer-bytes-left r before rest t ts h.taken step.taken step.nearer token is);
+    lexemes = lexemes-more ts (placed token) h.lexemes
+        (lexeme-one r before rest t ts h.taken step.taken step.nearer token is);
+    count = omega (
+      arith,
+      h.count,
+      ap length (encodes-chars rest h.utf8),
+      fewer-bytes-left r before rest t ts h.taken step.taken step.nearer token is,
+    );
   }
 
   pub none-passed : t.token ≡ None → ArePassed r ts n t.place t.comment t.rest.now × Waits after
@@ -108,16 +131,24 @@ module _ (r : Reading) (ts : List Placed) (n : ℕ) (p : Place) (comment : Bool)
       room = step.room;
       utf8 = step.utf8;
       lexemes = h.lexemes;
-      count = omega (arith, h.count, ap length (encodes-chars rest h.utf8), none-more-left r before rest t ts h.taken step.taken step.nearer step.utf8 is);
+      count = omega (
+        arith,
+        h.count,
+        ap length (encodes-chars rest h.utf8),
+        none-more-left r before rest t ts h.taken step.taken step.nearer step.utf8 is,
+      );
     },
     all-wait r before rest t ts h.taken step.taken step.nearer is,
   )
 
-front-is : (r : Reading) (ts : List Placed) (s : Span) → ArePassed r ts s.tokens s.place s.comment s.rest.now → ts ≡ front_tokens s.tokens r
-front-is r ts s h = sym (ap (take s.tokens) h.cut ∙ take_at ts (cut_in (reading s.place s.comment s.rest.now)) s.tokens h.size)
+front-is : (r : Reading) (ts : List Placed) (s : Span) → ArePassed r ts s.tokens s.place s.comment s.rest.now
+    → ts ≡ front_tokens s.tokens r
+front-is r ts s h = sym (ap (take s.tokens) h.cut ∙ take_at ts (cut_in (reading s.place s.comment s.rest.now))
+    s.tokens h.size)
 
 -- what was passed is the front of all the tokens
-pub is-front : (r : Reading) (ts : List Placed) (s : Span) → ArePassed r ts s.tokens s.place s.comment s.rest.now → IsFront r s
+pub is-front : (r : Reading) (ts : List Placed) (s : Span) → ArePassed r ts s.tokens s.place s.comment s.rest.now
+    → IsFront r s
 is-front r ts s h =
     let front = front-is r ts s h in
     record {
@@ -129,7 +160,8 @@ is-front r ts s h =
       count = h.count;
     }
 
-pub is-span : (r : Reading) (ts : List Placed) (s : Span) → ArePassed r ts s.tokens s.place s.comment s.rest.now → Ends s.ended ts (reading s.place s.comment s.rest.now) → IsSpan r s
+pub is-span : (r : Reading) (ts : List Placed) (s : Span) → ArePassed r ts s.tokens s.place s.comment s.rest.now
+    → Ends s.ended ts (reading s.place s.comment s.rest.now) → IsSpan r s
 is-span r ts s h ends = record {
   front = is-front r ts s h;
   ends = subst (λ (us : List Placed). Ends s.ended us (reading s.place s.comment s.rest.now)) (front-is r ts s h) ends;

@@ -13,7 +13,8 @@ use Rattle.cyc_lex.specs.Placed.{Placed}
 use Rattle.piecewise_lex.specs.Owned.{owned}
 use Rattle.piecewise_lex.specs.Runs.{IsKnown}
 use Rattle.cyc_lex.specs.Lexing.{pass_all, lex, Stops}
-use Rattle.piecewise_lex.specs.Feeding.{taken_chars, held_chars, ends_in_comment, tokens_taken, valid_chars, is_cut, tokens_from, waiting_in, taken_in, comment_after, Parts, told, defined}
+use Rattle.piecewise_lex.specs.Feeding.{taken_chars, held_chars, ends_in_comment, tokens_taken, valid_chars, is_cut}
+use Rattle.piecewise_lex.specs.Feeding.{tokens_from, waiting_in, taken_in, comment_after, Parts, told, defined}
 use Rattle.cyc_lex.specs.Lexing.{comment_len}
 
 -- what is taken of the characters that stand at p; the tail waits after those that wait
@@ -31,7 +32,8 @@ TakesText p going text tail (Err e) = Stops e (tokens_taken p (comment_len going
 -- what is taken of the bytes that stand at p
 pub record IsTaking (p : Place) (going : Bool) (bytes : List ℕ) (t : Batch) : Type 0 where
   pub cut : is_cut bytes ≡ true
-  pub tokens : tokens_taken p (comment_len going (valid_chars bytes)) (valid_chars bytes) ≡ Ok (map owned t.tokens.items)
+  pub tokens : tokens_taken p (comment_len going (valid_chars bytes)) (valid_chars bytes)
+      ≡ Ok (map owned t.tokens.items)
   pub place : t.place ≡ pass_all p (taken_chars (comment_len going (valid_chars bytes)) (valid_chars bytes))
   pub comment : t.comment ≡ comment_after going bytes
   pub waiting : t.waiting.items ≡ waiting_in going bytes

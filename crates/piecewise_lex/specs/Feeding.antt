@@ -1,5 +1,6 @@
 -- A text that comes in pieces: what of it waits for more, and what a value stands for that has taken some of it.
-use Rattle.std.specs.Prelude.{◌≡◌, ℕ, zero, suc, ◌-◌, Bool, true, false, ◌==◌, ◌&&◌, ◌||◌, nat_le, List, [], ◌∷◌, ◌++◌, length, take, drop, Option, Some, None, is_none, Result, Ok, Err, ◌⊎◌, if◌then◌else◌}
+use Rattle.std.specs.Prelude.{◌≡◌, ℕ, zero, suc, ◌-◌, Bool, true, false, ◌==◌, ◌&&◌, ◌||◌, nat_le, List, [], ◌∷◌, ◌++◌}
+use Rattle.std.specs.Prelude.{length, take, drop, Option, Some, None, is_none, Result, Ok, Err, ◌⊎◌, if◌then◌else◌}
 use Rattle.std.specs.Str.{chars, encode_utf8_all}
 use Rattle.std.specs.Str.Lossy.{utf8_valid_len, utf8_error_len}
 use Rattle.cyc_lex.specs.declared.place.Place.{Place}
@@ -47,7 +48,8 @@ ends_in_comment comment zero (c ∷ cs) = if is_held c cs then false else ends_i
 unfoldable pub tokens_taken : Place → ℕ → List ℕ → Result (List Placed) (Bad × Place)
 tokens_taken p k [] = Ok []
 tokens_taken p (suc k) (c ∷ cs) = tokens_taken (pass p c) k cs
-tokens_taken p zero (c ∷ cs) = if is_held c cs then Ok [] else taken (piece_at c cs).0 p (encode_utf8_all (c ∷ take (piece_at c cs).1 cs)) (tokens_taken (pass p c) (piece_at c cs).1 cs)
+tokens_taken p zero (c ∷ cs) = if is_held c cs then Ok [] else taken (piece_at c cs).0 p
+    (encode_utf8_all (c ∷ take (piece_at c cs).1 cs)) (tokens_taken (pass p c) (piece_at c cs).1 cs)
 
 -- ---- bytes
 
@@ -65,11 +67,13 @@ is_cut bytes = is_none (utf8_error_len (after_valid bytes))
 
 -- the tokens of bytes that stand at p, where a comment goes on or none does
 unfoldable pub tokens_from : Place → Bool → List ℕ → Result (List Placed) (Bad × Place)
-tokens_from p comment bytes = let cs = valid_chars bytes in lex (utf8_valid_len bytes == length bytes) p (comment_len comment cs) cs
+tokens_from p comment bytes = let cs = valid_chars bytes in
+    lex (utf8_valid_len bytes == length bytes) p (comment_len comment cs) cs
 
 -- the bytes that wait: a character that is cut in two, and before it a token, a '!' or a '-' that touches it or the end
 unfoldable pub waiting_in : Bool → List ℕ → List ℕ
-waiting_in comment bytes = let cs = valid_chars bytes in if is_cut bytes then encode_utf8_all (held_chars (comment_len comment cs) cs) ++ after_valid bytes else []
+waiting_in comment bytes = let cs = valid_chars bytes in
+    if is_cut bytes then encode_utf8_all (held_chars (comment_len comment cs) cs) ++ after_valid bytes else []
 
 -- the bytes without those that wait
 unfoldable pub taken_in : Bool → List ℕ → List ℕ
@@ -81,8 +85,8 @@ comment_after comment bytes = let cs = valid_chars bytes in ends_in_comment comm
 
 -- ---- a lexer
 
--- the bytes that wait; the place after what was taken; whether a comment goes on there; the fault that was met, if any, or that
--- memory ran out
+-- the bytes that wait; the place after what was taken; whether a comment goes on there; the fault that was met, if any,
+-- or that memory ran out
 pub record Parts : Type 0 where
   pub waiting : List ℕ
   pub place : Place
@@ -110,8 +114,8 @@ abbrev pub followed_by : List Placed → Result (List Placed) LexFault → Resul
 followed_by ts (Ok us) = Ok (ts ++ us)
 followed_by ts (Err f) = Err f
 
--- what was defined for the piece and the rest is the tokens handed out, and then what is defined for the rest; a fault is that of
--- both, whatever comes; where memory ran out, nothing is handed out from then on
+-- what was defined for the piece and the rest is the tokens handed out, and then what is defined for the rest; a fault
+-- is that of both, whatever comes; where memory ran out, nothing is handed out from then on
 abbrev pub KeepsLaw : Parts → List ℕ → Parts → Result (List Placed) LexFault → Type 0
 KeepsLaw old piece new (Ok ts) = (rest : List ℕ) → defined old (piece ++ rest) ≡ followed_by ts (defined new rest)
 KeepsLaw old piece new (Err faults.OutOfMemory) = new.met ≡ Some faults.OutOfMemory
@@ -120,7 +124,8 @@ KeepsLaw old piece new (Err f) = (rest : List ℕ) → (defined old (piece ++ re
 -- the tokens that are handed out are those of the bytes that are taken, the end token aside; and the parts after them
 pub record IsFed (old : Parts) (bytes : List ℕ) (new : Parts) (ts : List Placed) : Type 0 where
   pub unmet : old.met ≡ None
-  pub tokens : tokens_from old.place old.comment (taken_in old.comment bytes) ≡ Ok (ts ++ token_at End new.place [] ∷ [])
+  pub tokens : tokens_from old.place old.comment (taken_in old.comment bytes)
+      ≡ Ok (ts ++ token_at End new.place [] ∷ [])
   pub waiting : new.waiting ≡ waiting_in old.comment bytes
   pub place : new.place ≡ pass_all old.place (chars (taken_in old.comment bytes))
   pub comment : new.comment ≡ comment_after old.comment bytes
@@ -129,10 +134,12 @@ pub record IsFed (old : Parts) (bytes : List ℕ) (new : Parts) (ts : List Place
 -- the fault was met before, or it is the first of the bytes that are taken
 pub record IsFaulty (old : Parts) (bytes : List ℕ) (new : Parts) (f : LexFault) : Type 0 where
   pub met : new.met ≡ Some f
-  pub first : (old.met ≡ Some f) ⊎ ((old.met ≡ None) × (told (tokens_from old.place old.comment (taken_in old.comment bytes)) ≡ Err f))
+  pub first : (old.met ≡ Some f) ⊎ ((old.met ≡ None) × (told
+      (tokens_from old.place old.comment (taken_in old.comment bytes)) ≡ Err f))
 
 -- what is answered where the bytes that waited and the piece are these
 abbrev pub Feeds : Parts → List ℕ → Parts → Result (List Placed) LexFault → Type 0
 Feeds old bytes new (Ok ts) = IsFed old bytes new ts
-Feeds old bytes new (Err faults.OutOfMemory) = (new.met ≡ Some faults.OutOfMemory) × ((old.met ≡ None) ⊎ (old.met ≡ Some faults.OutOfMemory))
+Feeds old bytes new (Err faults.OutOfMemory) = (new.met ≡ Some faults.OutOfMemory)
+    × ((old.met ≡ None) ⊎ (old.met ≡ Some faults.OutOfMemory))
 Feeds old bytes new (Err f) = IsFaulty old bytes new f

@@ -1,6 +1,6 @@
 -- Tokens with texts of their own.
 use Rattle.std.specs.Prelude.{◌≤◌, length}
-use Rattle.cyc_limits.specs.declared.TheConstants.{LONGEST_NAME}
+use Rattle.cyc_basics.specs.declared.limits.TheConstants.{LONGEST_NAME}
 use Rattle.cyc_lex.specs.declared.token.Token.{Token}
 use Rattle.cyc_lex.specs.Placed.{Placed}
 use Rattle.piecewise_lex.specs.declared.owned.OwnedToken.{OwnedToken}

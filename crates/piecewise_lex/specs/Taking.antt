@@ -1,5 +1,6 @@
 -- Taking tokens off the front of a text, of which more may come.
-use Rattle.std.specs.Prelude.{◌≡◌, ℕ, ◌<◌, Bool, true, false, ◌&&◌, ◌==◌, List, [], ◌∷◌, ◌++◌, length, slice_index, Option, Some, None, Result, Ok, Err}
+use Rattle.std.specs.Prelude.{◌≡◌, ℕ, ◌<◌, Bool, true, false, ◌&&◌, ◌==◌, List, [], ◌∷◌, ◌++◌, length, slice_index}
+use Rattle.std.specs.Prelude.{Option, Some, None, Result, Ok, Err}
 use Rattle.std.specs.Str.{chars, encode_utf8_all, IsUtf8}
 use Rattle.cyc_lex.specs.declared.place.Place.{Place}
 use Rattle.cyc_lex.specs.declared.place.Bad.{Bad}
@@ -85,7 +86,8 @@ listed (Some t) = placed t ∷ []
 -- a token of at most 64 bytes, a lexeme, was taken, so fewer characters and bytes are left; or all that is left waits
 abbrev pub IsNearer : List ℕ → Taken → Option Token → Type 0
 IsNearer text t None = Waits (reading t.place t.comment t.rest.now)
-IsNearer text t (Some token) = IsShort token × (length (chars t.rest.now) < length (chars text)) × (t.comment ≡ false) × (is_lexeme (word token) ≡ true) × (length t.rest.now < length (encode_utf8_all (chars text)))
+IsNearer text t (Some token) = IsShort token × (length (chars t.rest.now) < length (chars text)) × (t.comment ≡ false)
+    × (is_lexeme (word token) ≡ true) × (length t.rest.now < length (encode_utf8_all (chars text)))
 
 pub record IsTaken (p : Place) (comment : Bool) (text : List ℕ) (t : Taken) : Type 0 where
   pub taken : HasTaken (reading p comment text) (listed t.token) (reading t.place t.comment t.rest.now)

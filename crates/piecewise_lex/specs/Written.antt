@@ -1,6 +1,6 @@
 -- The text of a token, where its bytes lie.
 use Rattle.std.specs.Prelude.{ℕ, ◌≤◌, List, take}
-use Rattle.cyc_limits.specs.declared.TheConstants.{LONGEST_NAME}
+use Rattle.cyc_basics.specs.declared.limits.TheConstants.{LONGEST_NAME}
 use Rattle.piecewise_lex.specs.declared.text.Form.{Form}
 use Rattle.piecewise_lex.specs.declared.text.Form.TheVariants as forms
 

@@ -9,20 +9,20 @@ ghost use Rattle.piecewise_lex.specs.Batches.{TakesText, Takings, TakesPiece, Ta
 use crate::bytes::joined;
 use crate::fronts::{first_bad, take_front};
 use crate::owned::{OwnedToken, own_all};
-use crate::run::{Known, known_run, lengthened};
+use crate::run::{KnownText, known_run, lengthened};
 use crate::valid::valid_front;
 use cyc_lex::{LexFault, OutOfMemory, Place, Stop, lex_from};
 use std::alloc::Global;
 
-/// What was taken of bytes: their tokens, the place after them, whether a comment goes on there, and the bytes that wait. So
-/// many of these as are known to be one name or number need not be looked at again.
+/// What was taken of bytes: their tokens, the place after them, whether a comment goes on there, and the bytes that
+/// wait. So many of these as are known to be one name or number need not be looked at again.
 #[derive(Drop)]
 pub struct Batch {
     pub tokens: Vec<OwnedToken>,
     pub place: Place,
     pub comment: bool,
     pub waiting: Vec<u8>,
-    pub known: Option<Known>,
+    pub known: Option<KnownText>,
 }
 
 /// Takes a text, after which no whole character stands in the tail.
@@ -67,10 +67,10 @@ fn take_bytes(alloc: Global, place: Place, comment: bool, bytes: &[u8]) -> Resul
 /// The run of which the bytes that wait are the front, where the piece only goes on it.
 fn still_run(
     alloc: Global,
-    known: Option<Known>,
+    known: Option<KnownText>,
     waiting: &[u8],
     piece: &[u8],
-) -> Result<Option<Known>, OutOfMemory>
+) -> Result<Option<KnownText>, OutOfMemory>
     requires known { IsKnown false waiting.now known }
     requires room { length waiting.now + length piece.now < 2 ^ 32 }
     ensures longer { IfOk result (Lengthens (waiting.now ++ piece.now)) }
@@ -82,12 +82,13 @@ fn still_run(
     }
 }
 
-/// Takes the bytes that waited and a piece after them, which need not be looked at anew where they are one name or number.
+/// Takes the bytes that waited and a piece after them, which need not be looked at anew where they are one name or
+/// number.
 pub fn take_piece(
     alloc: Global,
     place: Place,
     comment: bool,
-    known: Option<Known>,
+    known: Option<KnownText>,
     waiting: Vec<u8>,
     piece: &[u8],
 ) -> Result<Batch, LexFault>

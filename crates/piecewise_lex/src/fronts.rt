@@ -11,8 +11,8 @@ use crate::taking::take_token;
 use cyc_lex::{Bad, Piece, Place, Stop, check_len, next, skip_comment};
 use std::alloc::Global;
 
-/// What was taken of a text: copies of its tokens, the place after them, whether a comment goes on there, and the text that
-/// waits.
+/// What was taken of a text: copies of its tokens, the place after them, whether a comment goes on there, and the text
+/// that waits.
 #[derive(Drop)]
 pub struct Front<'a> {
     pub tokens: Vec<OwnedToken>,
@@ -21,7 +21,8 @@ pub struct Front<'a> {
     pub waits: &'a str,
 }
 
-/// Takes the tokens of a text that stands at a place, where a comment goes on or none does, but for what waits at its end.
+/// Takes the tokens of a text that stands at a place, where a comment goes on or none does, but for what waits at its
+/// end.
 pub fn take_front(alloc: Global, place: Place, comment: bool, text: &str) -> Result<Front<'_>, Stop>
     requires { HasRoom place (length text.now) }
     ensures { Fronts (reading place comment text.now) result }
@@ -49,8 +50,8 @@ pub fn take_front(alloc: Global, place: Place, comment: bool, text: &str) -> Res
     }
 }
 
-/// The first bad place of a text that stands at a place, where a comment goes on or none does, and after which a byte comes
-/// that begins no character.
+/// The first bad place of a text that stands at a place, where a comment goes on or none does, and after which a byte
+/// comes that begins no character.
 pub fn first_bad(place: Place, comment: bool, text: &str) -> Stop
     requires { HasRoom place (length text.now) }
     ensures { Stops result (lex false place (comment_len comment (chars text.now)) (chars text.now)) }

@@ -10,20 +10,20 @@ ghost use Rattle.piecewise_lex.specs.Law.{AreCalls, Call, Tells, answer_of, byte
 
 use crate::batch::{Batch, take_piece, take_rest};
 use crate::owned::OwnedToken;
-use crate::run::Known;
+use crate::run::KnownText;
 use cyc_lex::{LexFault, Place};
 use std::alloc::Global;
 use std::marker::Model;
 use std::mem;
 
-/// A lexer that is fed a text in pieces, of fewer than 4,294,967,295 bytes in all, and hands out its tokens as they are known.
-/// A contract sees the bytes that wait, the place after those that were taken, whether a comment goes on there, and the fault
-/// that was met; what is known of the bytes that wait saves time and changes nothing.
+/// A lexer that is fed a text in pieces, of fewer than 4,294,967,295 bytes in all, and hands out its tokens as they are
+/// known. A contract sees the bytes that wait, the place after those that were taken, whether a comment goes on there,
+/// and the fault that was met; what is known of the bytes that wait saves time and changes nothing.
 #[derive(Drop)]
 pub struct Lexer {
     alloc: Global,
     waiting: Vec<u8>,
-    known: Option<Known>,
+    known: Option<KnownText>,
     place: Place,
     comment: bool,
     met: Option<LexFault>,
@@ -38,7 +38,8 @@ impl Model for Lexer {
 
     ghost view = { λ l. record { waiting = l.waiting.items; place = l.place; comment = l.comment; met = l.met } };
 
-    ghost invariant = { λ l. (l.place.line ≤ l.place.offset + 1) × (l.place.column ≤ l.place.offset + 1) × IsKnown l.comment l.waiting.items l.known };
+    ghost invariant = { λ l. (l.place.line ≤ l.place.offset + 1) × (l.place.column ≤ l.place.offset + 1)
+        × IsKnown l.comment l.waiting.items l.known };
 }
 
 impl Lexer {
@@ -58,13 +59,15 @@ impl Lexer {
         }
     }
 
-    /// Takes the next piece of the text, and hands out the tokens that no more bytes can change. After a fault, and after
-    /// out of memory, every later call answers the same.
+    /// Takes the next piece of the text, and hands out the tokens that no more bytes can change. After a fault, and
+    /// after out of memory, every later call answers the same.
     pub fn feed(&mut self, piece: &[u8]) -> Result<Vec<OwnedToken>, LexFault>
         requires { self.old.place.offset + (length self.old.waiting + length piece.now) < 2 ^ 32 - 1 }
-        // The tokens, or the first fault, are those of the bytes that waited and the piece, without those that wait then.
+        // The tokens, or the first fault, are those of the bytes that waited and the piece, without those that wait
+        // then.
         ensures answer { Feeds self.old (self.old.waiting ++ piece.now) self.new (seen result) }
-        // Whatever comes: what was defined for the piece and the rest are these tokens, and then what is defined for the rest.
+        // Whatever comes: what was defined for the piece and the rest are these tokens, and then what is defined for
+        // the rest.
         ensures law { KeepsLaw self.old piece.now self.new (seen result) }
         // So that a caller knows how much it may still feed, after a fault too.
         ensures within { self.new.place.offset + length self.new.waiting
@@ -114,8 +117,8 @@ impl Lexer {
     }
 }
 
-/// What the clauses of `new`, `feed` and `finish` come to for a whole text, fed in any pieces: the tokens that all calls hand
-/// out are the tokens of the joined bytes, or the fault is the same.
+/// What the clauses of `new`, `feed` and `finish` come to for a whole text, fed in any pieces: the tokens that all
+/// calls hand out are the tokens of the joined bytes, or the fault is the same.
 pub fn feed_law()
     ensures { (calls : List Call) → (new : Parts) → (last : Result (List Placed) LexFault) → AreCalls fresh calls new
         → Finishes new last → Tells (answer_of calls last) (told (tokens_of (bytes_of calls))) }

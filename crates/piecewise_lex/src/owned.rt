@@ -5,8 +5,8 @@ ghost use Rattle.cyc_lex.specs.Placed.{placed};
 ghost use Rattle.piecewise_lex.specs.Owned.{owned, IsShort};
 
 use crate::text::Text;
+use cyc_basics::limits::LONGEST_NAME;
 use cyc_lex::{Kind, OutOfMemory, Token};
-use cyc_limits::LONGEST_NAME;
 use std::alloc::Global;
 
 /// A token with its own text: what a `Token` has, without the bytes that it was cut from.

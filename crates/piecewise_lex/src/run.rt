@@ -13,7 +13,7 @@ use std::alloc::Global;
 
 /// So many bytes, at the front of those that wait, are the characters of one name or number so far.
 #[derive(Clone, Copy)]
-pub struct Known {
+pub struct KnownText {
     pub run: Run,
     pub len: usize,
 }
@@ -42,7 +42,7 @@ fn begun(c: char) -> Option<Run>
 }
 
 /// The run that a whole text is, where it is one.
-pub fn known_run(text: &str) -> Option<Known>
+pub fn known_run(text: &str) -> Option<KnownText>
     ensures { IfSome result (λ known. (known.len ≡ length text.now) × IsRun known.run (chars text.now)) }
 {
     let (c, rest) = first(text)?;
@@ -50,20 +50,20 @@ pub fn known_run(text: &str) -> Option<Known>
     if !goes_all(run, rest) {
         return None;
     }
-    Some(Known {
+    Some(KnownText {
         run,
         len: text.len(),
     })
 }
 
-/// The run that the bytes which wait and a piece after them are, where those were one and the piece goes on it. It looks at
-/// the piece alone.
+/// The run that the bytes which wait and a piece after them are, where those were one and the piece goes on it. It
+/// looks at the piece alone.
 pub fn lengthened(
     alloc: Global,
-    known: Known,
+    known: KnownText,
     waiting: &[u8],
     piece: &[u8],
-) -> Result<Option<Known>, OutOfMemory>
+) -> Result<Option<KnownText>, OutOfMemory>
     requires known { IsKnown false waiting.now (Some known) }
     requires room { length waiting.now + length piece.now < 2 ^ 32 }
     ensures { IfOk result (Lengthens (waiting.now ++ piece.now)) }
@@ -74,7 +74,7 @@ pub fn lengthened(
     if !valid.cut || !goes_all(known.run, valid.text) {
         return Ok(None);
     }
-    Ok(Some(Known {
+    Ok(Some(KnownText {
         run: known.run,
         len: known.len + valid.text.len(),
     }))

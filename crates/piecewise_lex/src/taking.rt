@@ -68,8 +68,8 @@ fn next_piece(place: Place, text: &str) -> (Piece, &str, &str, Place)
     next(place, text)
 }
 
-/// Takes the next token of a text that stands at a place, where a comment goes on or none does. A token that reaches the end
-/// of the text is not taken: it waits, as a `!` or a `-` does there.
+/// Takes the next token of a text that stands at a place, where a comment goes on or none does. A token that reaches
+/// the end of the text is not taken: it waits, as a `!` or a `-` does there.
 #[inline(always)]
 pub fn take_token(place: Place, comment: bool, text: &str) -> Result<Taken<'_>, Stop>
     requires { HasRoom place (length text.now) }

@@ -2,8 +2,8 @@
 
 ghost use Rattle.std.specs.Prelude.{◌≡◌, ◌≤◌, ◌∷◌, [], length, IfOk};
 
+use cyc_basics::limits::LONGEST_NAME;
 use cyc_lex::OutOfMemory;
-use cyc_limits::LONGEST_NAME;
 use std::alloc::Global;
 use std::marker::Model;
 

@@ -2,7 +2,8 @@
 
 ghost use Rattle.piecewise_lex.specs.Valid.{IsValid};
 
-/// The text at the front of bytes, up to the first byte that begins no whole character, and the bytes from there on. They are
+/// The text at the front of bytes, up to the first byte that begins no whole character, and the bytes from there on.
+/// They are
 /// `cut` where more bytes may make a character of these, or there are none.
 #[derive(Clone, Copy)]
 pub struct Valid<'a> {

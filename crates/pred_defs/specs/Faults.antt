@@ -1,16 +1,19 @@
 -- Why definitions are refused: the first cause in a written order.
-use Rattle.std.specs.Prelude.{◌≡◌, ℕ, List, [], ◌∷◌, length, Bool, false, ◌||◌, nat_eq, nat_lt, nat_le, if◌then◌else◌, Option, Some, None, slice_get, Result, Ok, Err}
+use Rattle.std.specs.Prelude.{◌≡◌, ℕ, List, [], ◌∷◌, length, Bool, false, ◌||◌, nat_eq, nat_lt, nat_le, if◌then◌else◌}
+use Rattle.std.specs.Prelude.{Option, Some, None, slice_get, Result, Ok, Err}
 use Rattle.std.specs.Str.{bytes_eq}
 use Rattle.std.specs.List.{list_any}
-use Rattle.cyc_limits.specs.declared.TheConstants.{MOST_ARGUMENTS, MOST_CASES, MOST_LOCALS, MOST_PREDICATES}
+use Rattle.cyc_basics.specs.declared.limits.TheConstants.{MOST_ARGUMENTS, MOST_CASES, MOST_LOCALS, MOST_PREDICATES}
 use Rattle.heap_formula.specs.declared.atoms.Spatial.{Spatial}
 use Rattle.heap_formula.specs.declared.atoms.Spatial.TheVariants.{Cell, Pred}
-use Rattle.heap_formula.specs.declared.heaps.Count.TheVariants.{Predicates, Arguments, Cases, Spatial as SpatialAtoms, Locals}
+use Rattle.heap_formula.specs.declared.heaps.Count.TheVariants.{Predicates, Arguments, Cases, Spatial as SpatialAtoms}
+use Rattle.heap_formula.specs.declared.heaps.Count.TheVariants.{Locals}
 use Rattle.heap_formula.specs.Symbolic.{SymbolicHeap}
 use Rattle.heap_formula.specs.Definitions.{Definition}
 use Rattle.heap_formula.specs.Fresh.{heap_bound, heap_exists}
 use Rattle.pred_defs.specs.declared.faults.DefFault.{DefFault}
-use Rattle.pred_defs.specs.declared.faults.DefFault.TheVariants.{Duplicate, Unknown, Arity, Limit, Parameter, OutOfMemory}
+use Rattle.pred_defs.specs.declared.faults.DefFault.TheVariants.{Duplicate, Unknown, Arity, Limit, Parameter}
+use Rattle.pred_defs.specs.declared.faults.DefFault.TheVariants.{OutOfMemory}
 use Rattle.pred_defs.specs.Book.{DefinitionBook}
 
 -- some definition has this name

@@ -9,7 +9,7 @@ ghost use Rattle.heap_formula.specs.Symbolic.{SymbolicHeap};
 ghost use Rattle.pred_defs.specs.Bodies.{fresh_local, body_term, body_of, first_fresh};
 
 use crate::library::Defs;
-use cyc_memory::OutOfMemory;
+use cyc_basics::memory::OutOfMemory;
 use heap_formula::{Args, Heap, Pure, Spatial, Term};
 use std::alloc::Global;
 

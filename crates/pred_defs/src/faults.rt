@@ -1,10 +1,10 @@
 // Why definitions are refused.
-use cyc_memory::OutOfMemory;
+use cyc_basics::memory::OutOfMemory;
 use heap_formula::Count;
 use std::alloc::{AllocError, AllocFailed};
 
-/// Why a definition is not taken, or a list of definitions is not closed: the name is there already, a predicate that is
-/// used has no definition, it is used with another number of arguments, a count is passed, or a case has a universal
+/// Why a definition is not taken, or a list of definitions is not closed: the name is there already, a predicate that
+/// is used has no definition, it is used with another number of arguments, a count is passed, or a case has a universal
 /// variable that is no parameter.
 #[derive(Clone, Copy, Debug)]
 pub enum DefFault {

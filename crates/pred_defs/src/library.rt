@@ -2,10 +2,11 @@
 ghost use Rattle.std.specs.Prelude.{◌≡◌, ◌≢◌, ◌≤◌, ◌<◌, ◌++◌, ◌∷◌, [], length, Some, OnOk, OnErr, IfOk, IsOkUnless};
 ghost use Rattle.std.specs.List.{list_any};
 ghost use Rattle.heap_formula.specs.Meaning.{cases_of};
-ghost use Rattle.pred_defs.specs.Faults.{first_fault, has_name as list_has_name, is_long, has_far_local, has_stranger, push_fault, use_fault, case_fault, closed_fault, IsRefusal};
+ghost use Rattle.pred_defs.specs.Faults.{first_fault, has_name as list_has_name, is_long, has_far_local, has_stranger};
+ghost use Rattle.pred_defs.specs.Faults.{push_fault, use_fault, case_fault, closed_fault, IsRefusal};
 
 use crate::faults::DefFault;
-use cyc_limits::{MOST_ARGUMENTS, MOST_CASES, MOST_LOCALS, MOST_PREDICATES, MOST_SPATIAL};
+use cyc_basics::limits::{MOST_ARGUMENTS, MOST_CASES, MOST_LOCALS, MOST_PREDICATES, MOST_SPATIAL};
 use heap_formula::{Cases, Count, Def, DefName, Heap, Spatial, bound_of_heap, exists_in_heap};
 use std::alloc::{AllocError, Global};
 use std::marker::Model;
@@ -22,7 +23,7 @@ pub struct Defs {
 impl Model for Defs {
     ghost use Rattle.pred_defs.specs.Book.{DefinitionBook};
     ghost use Rattle.std.specs.Prelude.{length, ◌≤◌};
-    ghost use Rattle.cyc_limits.specs.declared.TheConstants.{MOST_PREDICATES, MOST_SPATIAL};
+    ghost use Rattle.cyc_basics.specs.declared.limits.TheConstants.{MOST_PREDICATES, MOST_SPATIAL};
 
     ghost Value = { DefinitionBook };
 

@@ -2,16 +2,20 @@
 use Rattle.std.specs.Prelude.{◌≡◌, ℕ, Bool, true, false, cond, List, [], ◌∷◌, ◌⊎◌, codes, Ok}
 use Rattle.std.proofs.Common.{inl, inr}
 use Rattle.cyc_lex.specs.Word.{Word}
-use Rattle.cyc_grammar.specs.Syntax.{Reading, ◌>>=◌, Syntax, Class, begins, read_class, one, seq, alt, many, shaped, after, before, headed, nothing, is_one, or_empty}
+use Rattle.cyc_grammar.specs.Syntax.{Reading, ◌>>=◌, Syntax, Class, begins, read_class, one, seq, alt, many, shaped}
+use Rattle.cyc_grammar.specs.Syntax.{after, before, headed, nothing, is_one, or_empty}
 use Rattle.cyc_grammar.specs.Classes.{keyword, number, the_end}
-use Rattle.heap_syntax.specs.Words.{nil, pred_word, or_word, last_word, cyclist_word, comma, semicolon, bar, arrow, turnstile, opening, closing, opening_brace, closing_brace, prime, free_name, goal_word, from_word, given_word}
+use Rattle.heap_syntax.specs.Words.{nil, pred_word, or_word, last_word, cyclist_word, comma, semicolon, bar, arrow}
+use Rattle.heap_syntax.specs.Words.{turnstile, opening, closing, opening_brace, closing_brace, prime, free_name}
+use Rattle.heap_syntax.specs.Words.{goal_word, from_word, given_word}
 use Rattle.heap_syntax.specs.declared.version.Version.{Version}
 use Rattle.heap_syntax.specs.Versions.{version}
 use Rattle.heap_syntax.specs.Grammar as shared
 use Rattle.heap_syntax.specs.Grammar.{Any, Terms, listed, fields, arguments}
 use Rattle.heap_syntax.specs.Trees.{Cell, Predicate}
-use Rattle.command_syntax.specs.Grammar as commands
-use Rattle.problem_syntax.specs.Trees.{Named, Nil, Plain, Primed, Spatial, Heap, Line, Definition, Goal, Entailment, From, Problem}
+use Rattle.heap_syntax.specs.LineGrammar as commands
+use Rattle.problem_syntax.specs.Trees.{Named, Nil, Plain, Primed, Spatial, Heap, Line, Definition, Goal, Entailment}
+use Rattle.problem_syntax.specs.Trees.{From, Problem}
 
 -- ---- words
 
@@ -64,7 +68,8 @@ from_named (Plain s) = inr (s, false)
 from_named (Primed s) = inr (s, true)
 
 unfoldable pub term : Bool → Syntax Named
-term b = shaped {A = Unit {0} ⊎ (List ℕ × Bool)} to_named from_named Any (alt (is_one nil) (one nil) (seq (one free_name) (primes b)))
+term b = shaped {A = Unit {0} ⊎ (List ℕ × Bool)} to_named from_named Any
+    (alt (is_one nil) (one nil) (seq (one free_name) (primes b)))
 
 abbrev pub terms : Bool → Terms Named
 terms b = record { some = Nil; syntax = term b }
@@ -94,7 +99,8 @@ unfoldable pub behind_name : Bool → Syntax (List Named ⊎ (Bool × List Named
 behind_name b = alt (is_one opening) (after opening (arguments (terms b))) (seq (primes b) (behind_address b))
 
 unfoldable pub spatial : Bool → Syntax Spatial
-spatial b = shaped {A = Atoms} to_spatial from_spatial Any (alt (is_one free_name) (seq (one free_name) (behind_name b)) (after nil (behind_address b)))
+spatial b = shaped {A = Atoms} to_spatial from_spatial Any
+    (alt (is_one free_name) (seq (one free_name) (behind_name b)) (after nil (behind_address b)))
 
 -- the heaps of a case, and those of a goal, where names may have primes
 abbrev pub heap : Bool → Syntax Heap
@@ -116,7 +122,8 @@ from_definition d = (d.name, (d.parameters, d.cases))
 
 unfoldable pub definition : Syntax Definition
 definition = shaped {A = List ℕ × (List (List ℕ) × List Heap)} to_definition from_definition Any
-    (after pred_word (seq (one free_name) (after opening (seq parameters (after opening_brace (before cases semicolon))))))
+    (after pred_word (seq (one free_name) (after opening (seq parameters
+    (after opening_brace (before cases semicolon))))))
 
 -- ---- goal = "from" number "given" heap ";" | heap "|-" heap { "or" heap } ";"
 

@@ -1,2 +1,9 @@
 pub mod Trees
 pub mod Grammar
+pub mod Names
+pub mod Occurrences
+pub mod Numbered
+pub mod Numbering
+pub mod Views
+pub mod NameViews
+pub mod ByNumber

@@ -3,8 +3,8 @@ use Rattle.std.specs.Prelude.{ℕ, List, map}
 use Rattle.std.specs.Borrow.{Bor}
 use Rattle.heap_syntax.specs.Trees as heaps
 use Rattle.heap_syntax.specs.declared.version.Version.{Version}
-use Rattle.command_syntax.specs.declared.tree.LineTree.{LineTree}
-use Rattle.command_syntax.specs.Trees as commands
+use Rattle.heap_syntax.specs.declared.lines.tree.LineTree.{LineTree}
+use Rattle.heap_syntax.specs.LineTrees as commands
 use Rattle.problem_syntax.specs.declared.tree.NameTree.{NameTree}
 use Rattle.problem_syntax.specs.declared.tree.NameTree.TheVariants as names
 use Rattle.problem_syntax.specs.declared.tree.DefinitionTree.{DefinitionTree}
@@ -60,11 +60,20 @@ abbrev pub line_of : LineTree (Bor (List ℕ)) → Line
 line_of l = commands.line_of text_of l
 
 abbrev pub definition_of : DefinitionTree → Definition
-definition_of d = record { name = d.name.now; parameters = map text_of d.parameters.items; cases = map heap_of d.cases.items }
+definition_of d = record {
+  name = d.name.now;
+  parameters = map text_of d.parameters.items;
+  cases = map heap_of d.cases.items;
+}
 
 abbrev pub goal_of : GoalTree → Goal
 goal_of (goals.Entailment h ds) = Entailment (heap_of h) (map heap_of ds.items)
 goal_of (goals.From n h) = From n (heap_of h)
 
 abbrev pub problem_of : ProblemTree → Problem
-problem_of p = record { version = p.version; definitions = map definition_of p.definitions.items; lines = map line_of p.lines.items; goal = goal_of p.goal }
+problem_of p = record {
+  version = p.version;
+  definitions = map definition_of p.definitions.items;
+  lines = map line_of p.lines.items;
+  goal = goal_of p.goal;
+}

@@ -6,8 +6,8 @@ ghost use Rattle.problem_syntax.specs.Trees.{named_of};
 ghost use Rattle.std.specs.Prelude.{map};
 
 use crate::tree::NameTree;
-use command_syntax::VariableForm;
 use cyc_grammar::{Cursor, Refusal};
+use heap_syntax::lines::VariableForm;
 use heap_syntax::{AtomForm, SpatialTree, TermForm, arguments, fields, free_name, reserved_words};
 use std::alloc::Global;
 

@@ -2,6 +2,8 @@
 #![tactic(auto)]
 
 mod form;
+pub mod names;
+pub mod numbering;
 mod read_definitions;
 mod read_problem;
 mod tree;

@@ -87,7 +87,7 @@ fn lines<'a>(
 ) -> Result<Vec<LineTree<'a>>, Refusal>
     ensures { Gives (λ x. (map line_of x.items, cursor.new)) result ((lines version).read cursor.old) }
 {
-    command_syntax::lines(alloc, &NameVariables, version, cursor)
+    heap_syntax::lines::lines(alloc, &NameVariables, version, cursor)
 }
 
 #[tactic(auto, unfolding(crate::specs::Grammar::body))]

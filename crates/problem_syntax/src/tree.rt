@@ -1,4 +1,5 @@
-//! Trees of problem files: what a text of the grammar says, with lists of any length and numbers of at most nine digits.
+//! Trees of problem files: what a text of the grammar says, with lists of any length and numbers of at most nine
+//! digits.
 
 use heap_syntax::Version;
 
@@ -14,7 +15,7 @@ pub enum NameTree<'a> {
 pub type HeapTree<'a> = heap_syntax::HeapTree<'a, NameTree<'a>>;
 
 /// A line of the program.
-pub type LineTree<'a> = command_syntax::LineTree<&'a str>;
+pub type LineTree<'a> = heap_syntax::lines::LineTree<&'a str>;
 
 /// The definition of a predicate, which has at least one case; no name in the cases is primed.
 #[derive(Drop)]

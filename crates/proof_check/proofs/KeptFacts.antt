@@ -8,6 +8,8 @@ use Rattle.proof_check.specs.Verdicts.{file_graph, HasRightNodes, RootHolds}
 use Rattle.proof_check.proofs.Readable.{file_cases, file_readable}
 use Rattle.proof_check.proofs.Checked.{correct_holds}
 
-pub root_holds : (f : ProofFile) → Each IsCommand f.program → HasRightNodes f → HasSmallHeaps f.nodes → AllProgress (file_graph f) → RootHolds f
+pub root_holds : (f : ProofFile) → Each IsCommand f.program → HasRightNodes f → HasSmallHeaps f.nodes
+    → AllProgress (file_graph f) → RootHolds f
 root_holds f commands right small all' root at =
-    correct_holds f.defs.most f.defs.list f.program f.nodes root commands (file_cases f) small (file_readable f) right at all'
+    correct_holds f.defs.most f.defs.list f.program f.nodes root commands (file_cases f) small (file_readable f)
+    right at all'

@@ -12,7 +12,8 @@ pub at_most_more : (g : List Node) (n m : ℕ) → n ≤ m → HasAtMost g n →
 at_most_more g n m b h = (h.0, h.1, omega (arith, h.2))
 
 -- no other verdict is true of a correct file with few states
-pub correct_is_accepted : (f : ProofFile) (v : Verdict) → IsVerdict f v → IsCorrect f → HasAtMost (file_graph f) state_limit → v ≡ Accepted
+pub correct_is_accepted : (f : ProofFile) (v : Verdict) → IsVerdict f v → IsCorrect f
+    → HasAtMost (file_graph f) state_limit → v ≡ Accepted
 correct_is_accepted f Accepted is correct few = refl
 correct_is_accepted f (RuleRefused v fault) is correct few = cc (correct.nodes v is.node is.at, is.first)
 correct_is_accepted f (PathRefused l) is correct few = absurd (is.2 (correct.paths l is.1))

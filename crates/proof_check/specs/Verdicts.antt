@@ -13,7 +13,7 @@ use Rattle.logics.specs.declared.verdict.Verdict.TheVariants.{Accepted, RuleRefu
 use Rattle.logics.specs.Logics.{LogicValue}
 use Rattle.logics.specs.Faults.{IsLeastFault as IsLeastFaultIn}
 use Rattle.logics.specs.Verdicts.{IsCorrect as IsCorrectIn}
-use Rattle.node_reasons.specs.SeparationLogic.{separation_logic}
+use Rattle.rule_book.specs.SeparationLogic.{separation_logic}
 use Rattle.proof_file.specs.declared.file.ProofFile.{ProofFile}
 use Rattle.proof_file.specs.FileNodes.{FileNode}
 use Rattle.proof_check.specs.Files.{graph_of, AreRight}
@@ -47,5 +47,6 @@ RootHolds f = (root : FileNode) → slice_get f.nodes 0 ≡ Some root → Judgem
 abbrev pub IsVerdict : ProofFile → Verdict → Type 0
 IsVerdict f Accepted = IsCorrect f × HasAtMost (file_graph f) state_limit × RootHolds f
 IsVerdict f (RuleRefused v fault) = IsLeastFault f v fault
-IsVerdict f (PathRefused l) = HasRightNodes f × IsLasso (file_graph f) l × (Progresses (file_graph f) l → ⊥) × HasAtMost (file_graph f) state_limit
+IsVerdict f (PathRefused l) = HasRightNodes f × IsLasso (file_graph f) l × (Progresses (file_graph f) l → ⊥)
+    × HasAtMost (file_graph f) state_limit
 IsVerdict f TooManyStates = HasRightNodes f × HasMoreThan (file_graph f) state_limit

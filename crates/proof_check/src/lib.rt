@@ -5,4 +5,4 @@ mod checking;
 pub mod laws;
 
 pub use checking::{Verdict, check};
-pub use cyc_memory::OutOfMemory;
+pub use cyc_basics::memory::OutOfMemory;

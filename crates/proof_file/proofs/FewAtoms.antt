@@ -21,32 +21,43 @@ use Rattle.heap_reader.proofs.NoFlaw.{neither}
 use Rattle.heap_reader.proofs.Fitting.{most_fits, heap_few, heaps_few}
 use Rattle.proof_file.specs.declared.file.ProofFile.{ProofFile}
 use Rattle.proof_file.specs.FileNodes.{FileNode}
-use Rattle.pred_reader.specs.declared.scope.Scope.TheVariants.{Outside as InNode}
+use Rattle.heap_reader.specs.declared.definitions.scope.Scope.TheVariants.{Outside as InNode}
 use Rattle.proof_file.specs.Spans.{term_span, node_span}
 use Rattle.proof_file.specs.Flaws.{headings, term_flaw, judgement_flaw, node_flaw, first_node}
 use Rattle.proof_file.specs.Written.{spatial_tree, heap_tree, judgement_tree, node_tree, tree_of}
 use Rattle.proof_file.proofs.Fitting.{node_parts, file_parts}
-use Rattle.list_facts.proofs.Places.{get_map}
+use Rattle.cyc_basics.proofs.Places.{get_map}
 use Rattle.heap_reader.proofs.FirstPlaces.{flaw_at}
 
-heaps_are_few : (most : ℕ) (ds : List DefinitionValue) (bs : List SymbolicHeap) → Each (λ (h : Heap). length h.spatial ≤ most) (map (heap_tree ds) bs) → list_all (λ (a : SymbolicHeap). nat_le (length a.spatial) most) bs ≡ true
+heaps_are_few : (most : ℕ) (ds : List DefinitionValue) (bs : List SymbolicHeap)
+    → Each (λ (h : Heap). length h.spatial ≤ most) (map (heap_tree ds) bs)
+    → list_all (λ (a : SymbolicHeap). nat_le (length a.spatial) most) bs ≡ true
 heaps_are_few most ds [] e = refl
 heaps_are_few most ds (b ∷ bs) e =
     let few = e.0 in
     let l = length-map b.spatial (spatial_tree ds) in
-    both_true (nat_le (length b.spatial) most) (list_all (λ (a : SymbolicHeap). nat_le (length a.spatial) most) bs) (le-leb (length b.spatial) most (omega arith)) (heaps_are_few most ds bs e.1)
+    both_true (nat_le (length b.spatial) most) (list_all (λ (a : SymbolicHeap). nat_le (length a.spatial) most) bs)
+    (le-leb (length b.spatial) most (omega arith)) (heaps_are_few most ds bs e.1)
 
-judgement_is_few : (most : ℕ) (ds : List DefinitionValue) (hs : List Heading) (count k : ℕ) (j : JudgementValue) → judgement_flaw most hs count k (judgement_tree ds j) ≡ None → list_all (λ (a : SymbolicHeap). nat_le (length a.spatial) most) (heaps_of j) ≡ true
+judgement_is_few : (most : ℕ) (ds : List DefinitionValue) (hs : List Heading) (count k : ℕ) (j : JudgementValue)
+    → judgement_flaw most hs count k (judgement_tree ds j) ≡ None
+    → list_all (λ (a : SymbolicHeap). nat_le (length a.spatial) most) (heaps_of j) ≡ true
 judgement_is_few most ds hs count k (Entail a bs) e =
     let p = k + heap_span term_span (heap_tree ds a) in
-    let both = neither (heap_flaw (term_flaw InNode) term_span most hs k (heap_tree ds a)) (heaps_flaw (term_flaw InNode) term_span most hs Disjuncts p (map (heap_tree ds) bs)) e in
-    heaps_are_few most ds (a ∷ bs) (heap_few (term_flaw InNode) term_span most hs k (heap_tree ds a) both.0, heaps_few (term_flaw InNode) term_span most hs Disjuncts p (map (heap_tree ds) bs) both.1)
+    let both = neither (heap_flaw (term_flaw InNode) term_span most hs k (heap_tree ds a))
+    (heaps_flaw (term_flaw InNode) term_span most hs Disjuncts p (map (heap_tree ds) bs)) e in
+    heaps_are_few most ds (a ∷ bs) (
+      heap_few (term_flaw InNode) term_span most hs k (heap_tree ds a) both.0,
+      heaps_few (term_flaw InNode) term_span most hs Disjuncts p (map (heap_tree ds) bs) both.1,
+    )
 judgement_is_few most ds hs count k (Halting n a) e =
-    let both = neither (ill_if (nat_eq n 0 || nat_lt count n) NoLine (k + 1)) (heap_flaw (term_flaw InNode) term_span most hs (k + 3) (heap_tree ds a)) e in
+    let both = neither (ill_if (nat_eq n 0 || nat_lt count n) NoLine (k + 1))
+    (heap_flaw (term_flaw InNode) term_span most hs (k + 3) (heap_tree ds a)) e in
     heaps_are_few most ds (a ∷ []) (heap_few (term_flaw InNode) term_span most hs (k + 3) (heap_tree ds a) both.1, tt)
 
 -- the heaps of a node's judgement are within the limit of the file's version
-pub node_is_few : (f : ProofFile) (v : ℕ) (n : FileNode) → slice_get f.nodes v ≡ Some n → list_all (λ (a : SymbolicHeap). nat_le (length a.spatial) (most_spatial f.version)) (heaps_of n.judgement) ≡ true
+pub node_is_few : (f : ProofFile) (v : ℕ) (n : FileNode) → slice_get f.nodes v ≡ Some n
+    → list_all (λ (a : SymbolicHeap). nat_le (length a.spatial) (most_spatial f.version)) (heaps_of n.judgement) ≡ true
 node_is_few f v n at =
     let ds = f.defs.list in
     let most = most_spatial f.version in
@@ -54,5 +65,7 @@ node_is_few f v n at =
     let hs = headings tree.definitions in
     let count = length tree.lines in
     let there = get_map (node_tree ds) f.nodes v n at in
-    let found = flaw_at (node_flaw most hs count) node_span 0 (first_node tree) tree.nodes v (node_tree ds n) there (file_parts tree f.flawless).2 in
-    judgement_is_few most ds hs count (found.0 + 1) n.judgement (node_parts most (most_fits f.version) hs count (0 + v) found.0 (node_tree ds n) found.1).1
+    let found = flaw_at (node_flaw most hs count) node_span 0 (first_node tree) tree.nodes v (node_tree ds n) there
+    (file_parts tree f.flawless).2 in
+    judgement_is_few most ds hs count (found.0 + 1) n.judgement
+    (node_parts most (most_fits f.version) hs count (0 + v) found.0 (node_tree ds n) found.1).1

@@ -3,7 +3,9 @@ use Rattle.std.proofs.Common.{ℕ, ◌≤◌, arith}
 use Rattle.heap_syntax.specs.declared.keep.Keep.TheVariants.{Beyond}
 use Rattle.heap_reader.proofs.FrontSpans.{heap-span, heaps-span}
 use Rattle.proof_syntax.specs.Keeping.{judgement_front, reason_front, node_front}
-use Rattle.proof_syntax.specs.Trees.{Judgement, Entails, From, Reason, Absurd, Rewrite, Split, Distinct, Weaken, Unfold, Cut, Done, Choose, PureRight, Instantiate, Frame, UnfoldRight, Exec, Drop, Link, Node}
+use Rattle.proof_syntax.specs.Trees.{Judgement, Entails, From, Reason, Absurd, Rewrite, Split, Distinct, Weaken, Unfold}
+use Rattle.proof_syntax.specs.Trees.{Cut, Done, Choose, PureRight, Instantiate, Frame, UnfoldRight, Exec, Drop, Link}
+use Rattle.proof_syntax.specs.Trees.{Node}
 use Rattle.proof_file.specs.Spans.{term_span, judgement_span, reason_span, node_span}
 
 module _ (m : ℕ) where

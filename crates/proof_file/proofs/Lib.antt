@@ -8,3 +8,7 @@ pub mod FewAtoms
 pub mod NodeFlaws
 pub mod FrontSpans
 pub mod Universal
+mod TextFronts
+mod ValuesAgain
+pub mod TextReadings
+mod Wider

@@ -4,18 +4,22 @@ use Rattle.std.specs.Prelude.{◌||◌, nat_eq, nat_lt, nat_le}
 use Rattle.cyc_lex.specs.declared.fault.IllFault.TheVariants.{NoLine}
 use Rattle.cyc_lex.specs.declared.fault.What.TheVariants.{Disjuncts, Nodes}
 use Rattle.heap_syntax.specs.declared.keep.Keep.TheVariants.{Beyond}
-use Rattle.proof_syntax.specs.Keeping.{heap_front, heaps_front, entailment_front, judgement_front, reason_front, node_front}
-use Rattle.proof_syntax.specs.Trees.{Heap, Entailment, Judgement, Entails, From, Reason, Absurd, Rewrite, Split, Distinct, Weaken, Unfold, Cut, Done, Choose, PureRight, Instantiate, Frame, UnfoldRight, Exec, Drop, Link, Node}
+use Rattle.proof_syntax.specs.Keeping.{heap_front, heaps_front, entailment_front, judgement_front, reason_front}
+use Rattle.proof_syntax.specs.Keeping.{node_front}
+use Rattle.proof_syntax.specs.Trees.{Heap, Entailment, Judgement, Entails, From, Reason, Absurd, Rewrite, Split}
+use Rattle.proof_syntax.specs.Trees.{Distinct, Weaken, Unfold, Cut, Done, Choose, PureRight, Instantiate, Frame}
+use Rattle.proof_syntax.specs.Trees.{UnfoldRight, Exec, Drop, Link, Node}
 use Rattle.heap_reader.specs.Trees.{Heading}
 use Rattle.heap_reader.specs.Spans.{heap_span}
 use Rattle.heap_reader.specs.Flaws.{Found, ill_if, over_if, or_later, heap_flaw, heaps_flaw}
 use Rattle.heap_reader.proofs.NoFlaw.{neither}
 use Rattle.heap_reader.proofs.FlawFronts.{front_flaw, front_whole, fronts_flaw, fronts_whole}
-use Rattle.pred_reader.specs.declared.scope.Scope.TheVariants.{Outside as InNode}
+use Rattle.heap_reader.specs.declared.definitions.scope.Scope.TheVariants.{Outside as InNode}
 use Rattle.proof_file.specs.Flaws.{term_flaw, entailment_flaw, judgement_flaw, reason_flaw, node_flaw}
 use Rattle.proof_file.specs.Spans.{term_span, judgement_span}
 
-module _ (most : ℕ) (m : ℕ) (pures_within : 64 ≤ m) (spatials_within : most ≤ m) (heaps_within : 16 ≤ m) (hs : List Heading) where
+module _ (most : ℕ) (m : ℕ) (pures_within : 64 ≤ m) (spatials_within : most ≤ m) (heaps_within : 16 ≤ m)
+    (hs : List Heading) where
   abbrev heap_found : ℕ → Heap → Found
   heap_found k h = heap_flaw (term_flaw InNode) term_span most hs k h
 
@@ -34,27 +38,40 @@ module _ (most : ℕ) (m : ℕ) (pures_within : 64 ≤ m) (spatials_within : mos
   heaps_whole : (k : ℕ) (ds : List Heap) → heaps_found k ds ≡ None → heaps_front (Beyond m) ds ≡ ds
   heaps_whole = fronts_whole (term_flaw InNode) term_span most hs m pures_within spatials_within Disjuncts heaps_within
 
-  entailment_same : (k : ℕ) (e : Entailment) → entailment_flaw most hs k (entailment_front (Beyond m) e) ≡ entailment_flaw most hs k e
+  entailment_same : (k : ℕ) (e : Entailment) → entailment_flaw most hs k (entailment_front (Beyond m) e)
+      ≡ entailment_flaw most hs k e
   entailment_same k e = by (heap_found k e.antecedent) refl
     where
-      by : (o : Found) → heap_found k e.antecedent ≡ o → entailment_flaw most hs k (entailment_front (Beyond m) e) ≡ entailment_flaw most hs k e
+      by : (o : Found) → heap_found k e.antecedent ≡ o
+          → entailment_flaw most hs k (entailment_front (Beyond m) e) ≡ entailment_flaw most hs k e
       by (Some f) h = rw (heap_same k e.antecedent, h) refl
       by None h =
-          ap (λ (x : Heap). or_later (heap_found k x) (heaps_found (k + heap_span term_span x) (heaps_front (Beyond m) e.disjuncts))) (heap_whole k e.antecedent h)
-          ∙ ap (λ o. or_later (heap_found k e.antecedent) o) (heaps_same (k + heap_span term_span e.antecedent) e.disjuncts)
+          ap (λ (x : Heap). or_later (heap_found k x)
+          (heaps_found (k + heap_span term_span x) (heaps_front (Beyond m) e.disjuncts)))
+          (heap_whole k e.antecedent h)
+          ∙ ap (λ o. or_later (heap_found k e.antecedent) o)
+          (heaps_same (k + heap_span term_span e.antecedent) e.disjuncts)
 
   entailment_whole : (k : ℕ) (e : Entailment) → entailment_flaw most hs k e ≡ None → entailment_front (Beyond m) e ≡ e
   entailment_whole k e h =
-      let both = neither (heap_found k e.antecedent) (heaps_found (k + heap_span term_span e.antecedent) e.disjuncts) h in
-      λ i. record { antecedent = heap_whole k e.antecedent both.0 i; disjuncts = heaps_whole (k + heap_span term_span e.antecedent) e.disjuncts both.1 i }
+      let both = neither (heap_found k e.antecedent) (heaps_found (k + heap_span term_span e.antecedent) e.disjuncts) h
+      in
+      λ i. record {
+        antecedent = heap_whole k e.antecedent both.0 i;
+        disjuncts = heaps_whole (k + heap_span term_span e.antecedent) e.disjuncts both.1 i;
+      }
 
-  judgement_same : (count k : ℕ) (j : Judgement) → judgement_flaw most hs count k (judgement_front (Beyond m) j) ≡ judgement_flaw most hs count k j
+  judgement_same : (count k : ℕ) (j : Judgement) → judgement_flaw most hs count k (judgement_front (Beyond m) j)
+      ≡ judgement_flaw most hs count k j
   judgement_same count k (Entails e) = entailment_same k e
-  judgement_same count k (From n h) = ap (λ o. or_later (ill_if (nat_eq n 0 || nat_lt count n) NoLine (k + 1)) o) (heap_same (k + 3) h)
+  judgement_same count k (From n h) = ap (λ o. or_later (ill_if (nat_eq n 0 || nat_lt count n) NoLine (k + 1)) o)
+      (heap_same (k + 3) h)
 
-  judgement_whole : (count k : ℕ) (j : Judgement) → judgement_flaw most hs count k j ≡ None → judgement_front (Beyond m) j ≡ j
+  judgement_whole : (count k : ℕ) (j : Judgement) → judgement_flaw most hs count k j ≡ None
+      → judgement_front (Beyond m) j ≡ j
   judgement_whole count k (Entails e) h = ap (λ (x : Entailment). Entails x) (entailment_whole k e h)
-  judgement_whole count k (From n h) e = ap (λ (x : Heap). From n x) (heap_whole (k + 3) h (neither (ill_if (nat_eq n 0 || nat_lt count n) NoLine (k + 1)) (heap_found (k + 3) h) e).1)
+  judgement_whole count k (From n h) e = ap (λ (x : Heap). From n x)
+      (heap_whole (k + 3) h (neither (ill_if (nat_eq n 0 || nat_lt count n) NoLine (k + 1)) (heap_found (k + 3) h) e).1)
 
   reason_same : (k : ℕ) (r : Reason) → reason_flaw most hs k (reason_front (Beyond m) r) ≡ reason_flaw most hs k r
   reason_same k Absurd = refl
@@ -98,17 +115,27 @@ module _ (most : ℕ) (m : ℕ) (pures_within : 64 ≤ m) (spatials_within : mos
   abbrev reason_found : ℕ → Node → Found
   reason_found k x = reason_flaw most hs (k + 1 + judgement_span x.judgement) x.reason
 
-  pub node_same : (count n k : ℕ) (x : Node) → node_flaw most hs count n k (node_front (Beyond m) x) ≡ node_flaw most hs count n k x
+  pub node_same : (count n k : ℕ) (x : Node) → node_flaw most hs count n k (node_front (Beyond m) x)
+      ≡ node_flaw most hs count n k x
   node_same count n k x = ap (λ o. or_later (over_if (nat_le 20000 n) Nodes k) o) (by (judgement_found count k x) refl)
     where
-      by : (o : Found) → judgement_found count k x ≡ o → or_later (judgement_found count k (node_front (Beyond m) x)) (reason_found k (node_front (Beyond m) x)) ≡ or_later (judgement_found count k x) (reason_found k x)
+      by : (o : Found) → judgement_found count k x ≡ o
+          → or_later (judgement_found count k (node_front (Beyond m) x)) (reason_found k (node_front (Beyond m) x))
+          ≡ or_later (judgement_found count k x) (reason_found k x)
       by (Some f) e = rw (judgement_same count (k + 1) x.judgement, e) refl
       by None e =
-          ap (λ (j : Judgement). or_later (judgement_flaw most hs count (k + 1) j) (reason_flaw most hs (k + 1 + judgement_span j) (reason_front (Beyond m) x.reason))) (judgement_whole count (k + 1) x.judgement e)
+          ap (λ (j : Judgement). or_later (judgement_flaw most hs count (k + 1) j)
+          (reason_flaw most hs (k + 1 + judgement_span j) (reason_front (Beyond m) x.reason)))
+          (judgement_whole count (k + 1) x.judgement e)
           ∙ ap (λ o. or_later (judgement_found count k x) o) (reason_same (k + 1 + judgement_span x.judgement) x.reason)
 
   pub node_whole : (count n k : ℕ) (x : Node) → node_flaw most hs count n k x ≡ None → node_front (Beyond m) x ≡ x
   node_whole count n k x e =
-      let rest = neither (over_if (nat_le 20000 n) Nodes k) (or_later (judgement_found count k x) (reason_found k x)) e in
+      let rest = neither (over_if (nat_le 20000 n) Nodes k) (or_later (judgement_found count k x) (reason_found k x)) e
+      in
       let both = neither (judgement_found count k x) (reason_found k x) rest.1 in
-      λ i. record { judgement = judgement_whole count (k + 1) x.judgement both.0 i; reason = reason_whole (k + 1 + judgement_span x.judgement) x.reason both.1 i; premises = x.premises }
+      λ i. record {
+        judgement = judgement_whole count (k + 1) x.judgement both.0 i;
+        reason = reason_whole (k + 1 + judgement_span x.judgement) x.reason both.1 i;
+        premises = x.premises;
+      }

@@ -5,15 +5,22 @@ use Rattle.cyc_grammar.specs.Classes.{the_end}
 use Rattle.cyc_grammar.specs.Syntax.{words_many, fits_many, list1}
 use Rattle.heap_syntax.specs.Grammar as shared
 use Rattle.heap_reader.specs.Spans.{total, total_or, premises_rest}
-use Rattle.line_reader.specs.Spans.{line_span}
+use Rattle.heap_reader.specs.LineSpans.{line_span}
 use Rattle.heap_reader.proofs.SpanLaws.{between, alone}
-use Rattle.line_reader.proofs.SpanLaws.{lines_words}
-use Rattle.pred_reader.proofs.SpanLaws.{uterm_words, heap_words, heaps_words, definition_words}
+use Rattle.heap_reader.proofs.LineSpanLaws.{lines_words}
+use Rattle.heap_reader.proofs.DefinitionSpanLaws.{uterm_words, heap_words, heaps_words, definition_words}
 use Rattle.proof_syntax.specs.declared.tree.PairTree.{PairTree}
-use Rattle.proof_syntax.specs.Trees.{Entailment, Judgement, Entails, From, LinkData, Reason, Absurd, Rewrite, Split, Distinct, Weaken, Unfold, Cut, Done, Choose, PureRight, Instantiate, Frame, UnfoldRight, Exec, Drop, Link, Node, File}
-use Rattle.proof_syntax.specs.Grammar.{uterm, terms, heap, heaps, definition, variable, lines, disjuncts, entailment, state, judgement, numbers, bracketed, two_numbers, side, rewrite, split, cut, instantiate, pair, pairs1, pairs, link, parts, reason, premises, node, definitions, more_nodes, nodes, body, file, some_pair, comma, closing_bracket, closing_brace, semicolon, or_word, by_word, last_word, turnstile}
+use Rattle.proof_syntax.specs.Trees.{Entailment, Judgement, Entails, From, LinkData, Reason, Absurd, Rewrite, Split}
+use Rattle.proof_syntax.specs.Trees.{Distinct, Weaken, Unfold, Cut, Done, Choose, PureRight, Instantiate, Frame}
+use Rattle.proof_syntax.specs.Trees.{UnfoldRight, Exec, Drop, Link, Node, File}
+use Rattle.proof_syntax.specs.Grammar.{uterm, terms, heap, heaps, definition, variable, lines, disjuncts, entailment}
+use Rattle.proof_syntax.specs.Grammar.{state, judgement, numbers, bracketed, two_numbers, side, rewrite, split, cut}
+use Rattle.proof_syntax.specs.Grammar.{instantiate, pair, pairs1, pairs, link, parts, reason, premises, node}
+use Rattle.proof_syntax.specs.Grammar.{definitions, more_nodes, nodes, body, file, some_pair, comma, closing_bracket}
+use Rattle.proof_syntax.specs.Grammar.{closing_brace, semicolon, or_word, by_word, last_word, turnstile}
 use Rattle.proof_file.proofs.Fitting.{HasDisjunct}
-use Rattle.proof_file.specs.Spans.{variable_span, definition_span, entailment_span, judgement_span, pair_span, link_span, reason_span, node_span}
+use Rattle.proof_file.specs.Spans.{variable_span, definition_span, entailment_span, judgement_span, pair_span}
+use Rattle.proof_file.specs.Spans.{link_span, reason_span, node_span}
 
 -- ---- lists
 
@@ -29,7 +36,8 @@ unfolding entailment disjuncts
 entailment_words e f =
     let a = heap_words true e.antecedent f.1.0 in
     let d = heaps_words or_word by_word e.disjuncts f.1.1 in
-    let l = length-append ((heap (terms true)).words e.antecedent) (turnstile.word tt ∷ (heaps or_word by_word).words e.disjuncts) in
+    let l = length-append ((heap (terms true)).words e.antecedent)
+    (turnstile.word tt ∷ (heaps or_word by_word).words e.disjuncts) in
     omega arith
 
 judgement_words : (j : Judgement) → judgement.fits j → length (judgement.words j) ≡ judgement_span j
@@ -135,7 +143,8 @@ nodes_words (n ∷ ns) f =
     omega arith
 
 -- the words of a file: the header, the definitions, the lines, the nodes, the last statement, and the end
-pub file_words : (f : File) → file.fits f → length (file.words f) ≡ 4 + total definition_span f.definitions + total (line_span variable_span) f.lines + total node_span f.nodes + 3
+pub file_words : (f : File) → file.fits f → length (file.words f)
+    ≡ 4 + total definition_span f.definitions + total (line_span variable_span) f.lines + total node_span f.nodes + 3
 unfolding file body definitions
 file_words f fit =
     let d = alone (λ w. true) definition definition_span definition_words f.definitions fit.1.1.0 in
@@ -143,7 +152,8 @@ file_words f fit =
     let n = nodes_words f.nodes fit.1.1.1.1 in
     let a = length-append (nodes.words f.nodes) (semicolon.word tt ∷ []) in
     let e = length-append ((lines f.version).words f.lines) (nodes.words f.nodes ++ semicolon.word tt ∷ []) in
-    let b = length-append (words_many definition f.definitions) ((lines f.version).words f.lines ++ (nodes.words f.nodes ++ semicolon.word tt ∷ [])) in
+    let b = length-append (words_many definition f.definitions)
+    ((lines f.version).words f.lines ++ (nodes.words f.nodes ++ semicolon.word tt ∷ [])) in
     let c = length-append (body.words f) (the_end.word tt ∷ []) in
     omega arith
 

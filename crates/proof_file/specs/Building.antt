@@ -11,7 +11,7 @@ use Rattle.proof_file.specs.declared.building.NodeFault.{NodeFault}
 use Rattle.proof_file.specs.declared.building.NodeFault.TheVariants as faults
 use Rattle.proof_file.specs.FileNodes.{FileNode}
 use Rattle.proof_file.specs.Flaws.{headings, file_flaw}
-use Rattle.line_reader.specs.Values.{program_value}
+use Rattle.heap_reader.specs.LineValues.{program_value}
 use Rattle.proof_file.specs.Values.{definition_value, node_value}
 
 -- what stands before the nodes
@@ -19,7 +19,8 @@ abbrev pub front_of : Version → List Definition → List Line → File
 front_of v ds ls = record { version = v; definitions = ds; lines = ls; nodes = [] }
 
 -- the values are those of the tree
-pub record IsSaid (t : File) (v : Version) (book : DefinitionBook) (commands : List Command) (xs : List FileNode) : Type 0 where
+pub record IsSaid (t : File) (v : Version) (book : DefinitionBook) (commands : List Command) (xs : List FileNode)
+    : Type 0 where
   pub version : v ≡ t.version
   pub most : book.most ≡ most_spatial t.version
   pub definitions : book.list ≡ map (definition_value (headings t.definitions)) t.definitions

@@ -6,14 +6,19 @@ use Rattle.cyc_grammar.specs.Syntax.{one, uncons}
 use Rattle.cyc_grammar.specs.Classes.{number}
 use Rattle.proof_syntax.specs.declared.reason_word.ReasonWord.{ReasonWord}
 use Rattle.proof_syntax.specs.declared.reason_word.ReasonWord.TheVariants as words
-use Rattle.pred_syntax.specs.Fits.{HasOneFit, many-fit, list-fit, sign-fit, uterm-fit, heap-fit, heaps-fit, definition-fit}
+use Rattle.heap_syntax.specs.Fits.{HasOneFit, many-fit, list-fit, sign-fit, uterm-fit, heap-fit, heaps-fit}
+use Rattle.heap_syntax.specs.Fits.{definition-fit}
 use Rattle.proof_syntax.specs.Trees.{Entails, From}
 use Rattle.heap_syntax.specs.declared.version.Version.{Version}
-use Rattle.command_syntax.specs.declared.tree.OperandTree.TheVariants as operands
-use Rattle.command_syntax.specs.declared.tree.ChangeTree.TheVariants as changes
-use Rattle.command_syntax.specs.declared.tree.CommandTree.TheVariants.{Stop, Goto, Free, IfAny, If, StoreAtNil, Change}
-use Rattle.command_syntax.specs.Grammar as commands
-use Rattle.proof_syntax.specs.Grammar.{definition, variable, lines, disjuncts, entailment, state, judgement, numbers, bracketed, two_numbers, side, rewrite, split, cut, instantiate, pair, pairs1, pairs, link, parts, reason, premises, node, definitions, more_nodes, nodes, body, file, from_reason, comma, or_word, by_word, some_pair, some_node}
+use Rattle.heap_syntax.specs.declared.lines.tree.OperandTree.TheVariants as operands
+use Rattle.heap_syntax.specs.declared.lines.tree.ChangeTree.TheVariants as changes
+use Rattle.heap_syntax.specs.declared.lines.tree.CommandTree.TheVariants.{Stop, Goto, Free, IfAny, If, StoreAtNil}
+use Rattle.heap_syntax.specs.declared.lines.tree.CommandTree.TheVariants.{Change}
+use Rattle.heap_syntax.specs.LineGrammar as commands
+use Rattle.proof_syntax.specs.Grammar.{definition, variable, lines, disjuncts, entailment, state, judgement, numbers}
+use Rattle.proof_syntax.specs.Grammar.{bracketed, two_numbers, side, rewrite, split, cut, instantiate, pair, pairs1}
+use Rattle.proof_syntax.specs.Grammar.{pairs, link, parts, reason, premises, node, definitions, more_nodes, nodes, body}
+use Rattle.proof_syntax.specs.Grammar.{file, from_reason, comma, or_word, by_word, some_pair, some_node}
 
 -- ---- judgements
 
@@ -54,7 +59,8 @@ command-fit version Stop = ×_prop Unit-prop Unit-prop
 command-fit version (IfAny n) = ×_prop Unit-prop (behind_if-fit (commands.has_free_branches version) (inl n))
 command-fit version (Goto n) = ×_prop Unit-prop le_prop
 command-fit version (Free t) = ×_prop Unit-prop (operand-fit t)
-command-fit version (If t b u n) = ×_prop Unit-prop (behind_if-fit (commands.has_free_branches version) (inr (t, (b, (u, n)))))
+command-fit version (If t b u n) = ×_prop Unit-prop
+    (behind_if-fit (commands.has_free_branches version) (inr (t, (b, (u, n)))))
 command-fit version (StoreAtNil n t) = ×_prop Unit-prop (×_prop le_prop (operand-fit t))
 command-fit version (Change v c) = ×_prop Unit-prop (×_prop le_prop (change-fit c))
 
@@ -88,7 +94,8 @@ pairs-fit (p ∷ ps) = ×_prop Unit-prop (list-fit some_pair comma pair pair-fit
 link-fit : HasOneFit link
 unfolding link
 link-fit l =
-    ×_prop Unit-prop (×_prop le_prop (×_prop (pairs-fit l.substitution) (×_prop (bracketed-fit l.mapped) (bracketed-fit l.disjuncts))))
+    ×_prop Unit-prop (×_prop le_prop (×_prop (pairs-fit l.substitution)
+    (×_prop (bracketed-fit l.mapped) (bracketed-fit l.disjuncts))))
 
 parts-fit : (w : ReasonWord) → HasOneFit (parts w)
 unfolding parts rewrite side split two_numbers cut instantiate
@@ -133,4 +140,5 @@ nodes-fit ns =
 pub file-fit : HasOneFit file
 unfolding file body definitions
 file-fit f =
-    ×_prop Unit-prop (×_prop Unit-prop (×_prop (many-fit definition definition-fit f.definitions) (×_prop (lines-fit f.version f.lines) (nodes-fit f.nodes))))
+    ×_prop Unit-prop (×_prop Unit-prop (×_prop (many-fit definition definition-fit f.definitions)
+    (×_prop (lines-fit f.version f.lines) (nodes-fit f.nodes))))

@@ -1,18 +1,20 @@
 -- The first flaw of a file that the grammar has: what is ill-formed or passes a limit, and at which token.
 use Rattle.std.specs.Prelude.{ℕ, ◌+◌, ◌||◌, nat_eq, nat_lt, nat_le, List, length, None}
-use Rattle.cyc_limits.specs.declared.TheConstants.{GREATEST_PROGRAM_VARIABLE, GREATEST_VARIABLE, MOST_NODES}
+use Rattle.cyc_basics.specs.declared.limits.TheConstants.{GREATEST_PROGRAM_VARIABLE, GREATEST_VARIABLE, MOST_NODES}
 use Rattle.cyc_lex.specs.declared.fault.IllFault.TheVariants.{NoLine}
 use Rattle.cyc_lex.specs.declared.fault.What.TheVariants.{Disjuncts, ProgramVariables, Nodes, Variable}
 use Rattle.heap_syntax.specs.Versions.{most_spatial}
 use Rattle.heap_reader.specs.Trees.{Heading}
 use Rattle.heap_reader.specs.Spans.{total, heap_span}
-use Rattle.line_reader.specs.Spans.{line_span}
+use Rattle.heap_reader.specs.LineSpans.{line_span}
 use Rattle.heap_reader.specs.Flaws.{Found, ill_if, over_if, or_later, listed_flaw, heap_flaw, heaps_flaw}
-use Rattle.line_reader.specs.LineFlaws.{lines_flaw}
+use Rattle.heap_reader.specs.LineFlaws.{lines_flaw}
 use Rattle.proof_syntax.specs.declared.tree.PairTree.{PairTree}
-use Rattle.proof_syntax.specs.Trees.{Heap, Line, Entailment, Judgement, Entails, From, Reason, Absurd, Rewrite, Split, Distinct, Weaken, Unfold, Cut, Done, Choose, PureRight, Instantiate, Frame, UnfoldRight, Exec, Drop, Link, Node, File}
-use Rattle.pred_reader.specs.declared.scope.Scope.TheVariants.{Outside as InNode}
-pub use Rattle.pred_reader.specs.Flaws.{heading, headings, term_flaw, head_flaw, definition_flaw}
+use Rattle.proof_syntax.specs.Trees.{Heap, Line, Entailment, Judgement, Entails, From, Reason, Absurd, Rewrite, Split}
+use Rattle.proof_syntax.specs.Trees.{Distinct, Weaken, Unfold, Cut, Done, Choose, PureRight, Instantiate, Frame}
+use Rattle.proof_syntax.specs.Trees.{UnfoldRight, Exec, Drop, Link, Node, File}
+use Rattle.heap_reader.specs.declared.definitions.scope.Scope.TheVariants.{Outside as InNode}
+pub use Rattle.heap_reader.specs.DefinitionFlaws.{heading, headings, term_flaw, head_flaw, definition_flaw}
 use Rattle.proof_file.specs.Spans.{term_span, variable_span, definition_span, judgement_span, pair_span, node_span}
 
 -- ---- lines; each part begins at token k, and n members stand before it
@@ -28,19 +30,22 @@ program_flaw k ls = lines_flaw variable_flaw variable_span k ls
 
 abbrev pub entailment_flaw : ℕ → List Heading → ℕ → Entailment → Found
 entailment_flaw most hs k e =
-    or_later (heap_flaw (term_flaw InNode) term_span most hs k e.antecedent) (heaps_flaw (term_flaw InNode) term_span most hs Disjuncts (k + heap_span term_span e.antecedent) e.disjuncts)
+    or_later (heap_flaw (term_flaw InNode) term_span most hs k e.antecedent)
+    (heaps_flaw (term_flaw InNode) term_span most hs Disjuncts (k + heap_span term_span e.antecedent) e.disjuncts)
 
 -- the number of a line, and the symbolic state there
 abbrev pub state_flaw : ℕ → List Heading → ℕ → ℕ → ℕ → Heap → Found
 state_flaw most hs count k n h =
-    or_later (ill_if (nat_eq n 0 || nat_lt count n) NoLine (k + 1)) (heap_flaw (term_flaw InNode) term_span most hs (k + 3) h)
+    or_later (ill_if (nat_eq n 0 || nat_lt count n) NoLine (k + 1))
+    (heap_flaw (term_flaw InNode) term_span most hs (k + 3) h)
 
 abbrev pub judgement_flaw : ℕ → List Heading → ℕ → ℕ → Judgement → Found
 judgement_flaw most hs count k (Entails e) = entailment_flaw most hs k e
 judgement_flaw most hs count k (From n h) = state_flaw most hs count k n h
 
 abbrev pub pair_flaw : ℕ → PairTree → Found
-pair_flaw k p = or_later (over_if (nat_lt GREATEST_VARIABLE p.variable) Variable (k + 1)) (term_flaw InNode (k + 3) p.value)
+pair_flaw k p = or_later (over_if (nat_lt GREATEST_VARIABLE p.variable) Variable (k + 1))
+    (term_flaw InNode (k + 3) p.value)
 
 abbrev pub reason_flaw : ℕ → List Heading → ℕ → Reason → Found
 reason_flaw most hs k Absurd = None
@@ -49,11 +54,13 @@ reason_flaw most hs k (Split t u) = or_later (term_flaw InNode (k + 1) t) (term_
 reason_flaw most hs k (Distinct i j) = None
 reason_flaw most hs k (Weaken i) = None
 reason_flaw most hs k (Unfold i) = None
-reason_flaw most hs k (Cut places formula) = heap_flaw (term_flaw InNode) term_span most hs (k + 3 + length places) formula
+reason_flaw most hs k (Cut places formula) = heap_flaw (term_flaw InNode) term_span most hs (k + 3 + length places)
+    formula
 reason_flaw most hs k Done = None
 reason_flaw most hs k (Choose j) = None
 reason_flaw most hs k (PureRight i) = None
-reason_flaw most hs k (Instantiate v t) = or_later (over_if (nat_lt GREATEST_VARIABLE v) Variable (k + 2)) (term_flaw InNode (k + 3) t)
+reason_flaw most hs k (Instantiate v t) = or_later (over_if (nat_lt GREATEST_VARIABLE v) Variable (k + 2))
+    (term_flaw InNode (k + 3) t)
 reason_flaw most hs k (Frame i j) = None
 reason_flaw most hs k (UnfoldRight j c) = None
 reason_flaw most hs k Exec = None
@@ -63,7 +70,9 @@ reason_flaw most hs k (Link l) = listed_flaw (λ n. pair_flaw) pair_span 0 (k + 
 -- at most 20,000
 abbrev pub node_flaw : ℕ → List Heading → ℕ → ℕ → ℕ → Node → Found
 node_flaw most hs count n k node =
-    or_later (over_if (nat_le MOST_NODES n) Nodes k) (or_later (judgement_flaw most hs count (k + 1) node.judgement) (reason_flaw most hs (k + 1 + judgement_span node.judgement) node.reason))
+    or_later (over_if (nat_le MOST_NODES n) Nodes k)
+    (or_later (judgement_flaw most hs count (k + 1) node.judgement)
+    (reason_flaw most hs (k + 1 + judgement_span node.judgement) node.reason))
 
 -- ---- files: four tokens stand before the definitions
 
@@ -75,8 +84,10 @@ abbrev pub first_node : File → ℕ
 first_node f = first_line f + total (line_span variable_span) f.lines
 
 abbrev pub nodes_flaw : File → Found
-nodes_flaw f = listed_flaw (node_flaw (most_spatial f.version) (headings f.definitions) (length f.lines)) node_span 0 (first_node f) f.nodes
+nodes_flaw f = listed_flaw (node_flaw (most_spatial f.version) (headings f.definitions) (length f.lines)) node_span 0
+    (first_node f) f.nodes
 
 abbrev pub file_flaw : File → Found
 file_flaw f =
-    or_later (listed_flaw (definition_flaw (most_spatial f.version) (headings f.definitions)) definition_span 0 4 f.definitions) (or_later (program_flaw (first_line f) f.lines) (nodes_flaw f))
+    or_later (listed_flaw (definition_flaw (most_spatial f.version) (headings f.definitions))
+    definition_span 0 4 f.definitions) (or_later (program_flaw (first_line f) f.lines) (nodes_flaw f))

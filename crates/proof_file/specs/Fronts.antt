@@ -1,6 +1,6 @@
 -- The first flaw of a file's statements, as it shows in what is kept of them.
 use Rattle.std.specs.Prelude.{◌≡◌, ◌≤◌, ℕ, None}
-use Rattle.cyc_limits.specs.declared.TheConstants.{MOST_PURE, MOST_DISJUNCTS}
+use Rattle.cyc_basics.specs.declared.limits.TheConstants.{MOST_PURE, MOST_DISJUNCTS}
 use Rattle.heap_reader.specs.Flaws.{Found}
 
 -- so many members kept of each list are no fewer than any limit allows, where so many spatial atoms are allowed

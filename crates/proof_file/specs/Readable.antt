@@ -2,7 +2,7 @@
 -- reason and in a command.
 use Rattle.std.specs.Prelude.{ℕ, Bool, true, ◌&&◌, List, length, nat_lt, nat_le}
 use Rattle.std.specs.List.{list_all}
-use Rattle.cyc_limits.specs.declared.TheConstants.{MOST_CASES}
+use Rattle.cyc_basics.specs.declared.limits.TheConstants.{MOST_CASES}
 use Rattle.heap_formula.specs.declared.commands.Command.{Command}
 use Rattle.heap_formula.specs.declared.commands.Command.TheVariants as commands
 use Rattle.heap_formula.specs.declared.judgements.Judgement.{Judgement}

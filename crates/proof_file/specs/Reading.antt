@@ -8,7 +8,7 @@ use Rattle.heap_syntax.specs.Versions.{most_spatial}
 use Rattle.heap_reader.specs.Reading as reading
 use Rattle.proof_file.specs.declared.file.ProofFile.{ProofFile}
 use Rattle.proof_file.specs.Flaws.{headings, file_flaw}
-use Rattle.line_reader.specs.Values.{program_value}
+use Rattle.heap_reader.specs.LineValues.{program_value}
 use Rattle.proof_file.specs.Values.{definition_value, node_value}
 
 -- the file that a tree says

@@ -1,11 +1,13 @@
 -- Parts of trees that fit the values' types: numbers of 16 bits, lists within the limits.
 use Rattle.std.specs.Prelude.{◌<◌, ◌≤◌, length}
-use Rattle.cyc_limits.specs.declared.TheConstants.{MOST_DISJUNCTS, MOST_NODES, MOST_PREDICATES}
+use Rattle.cyc_basics.specs.declared.limits.TheConstants.{MOST_DISJUNCTS, MOST_NODES, MOST_PREDICATES}
 use Rattle.heap_formula.specs.Words.{Each}
 use Rattle.heap_reader.specs.Small.{IsSmall, IsSmallHeap}
 use Rattle.proof_syntax.specs.declared.tree.PairTree.{PairTree}
-use Rattle.proof_syntax.specs.Trees.{Entailment, Judgement, Entails, From, Reason, Absurd, Rewrite, Split, Distinct, Weaken, Unfold, Cut, Done, Choose, PureRight, Instantiate, Frame, UnfoldRight, Exec, Drop, Link, Node, File}
-pub use Rattle.pred_reader.specs.Small.{IsSmallDefinition}
+use Rattle.proof_syntax.specs.Trees.{Entailment, Judgement, Entails, From, Reason, Absurd, Rewrite, Split, Distinct}
+use Rattle.proof_syntax.specs.Trees.{Weaken, Unfold, Cut, Done, Choose, PureRight, Instantiate, Frame, UnfoldRight}
+use Rattle.proof_syntax.specs.Trees.{Exec, Drop, Link, Node, File}
+pub use Rattle.heap_reader.specs.DefinitionSmall.{IsSmallDefinition}
 use Rattle.proof_file.specs.Values.{term_value}
 
 pub record IsSmallEntailment (e : Entailment) : Type 0 where

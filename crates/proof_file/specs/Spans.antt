@@ -1,9 +1,11 @@
 -- How many tokens the parts of a file have, the one token after a part counted in.
 use Rattle.std.specs.Prelude.{ℕ, ◌+◌, length}
 use Rattle.heap_reader.specs.Spans.{total, total_or, heap_span, premises_rest}
-pub use Rattle.pred_reader.specs.Spans.{term_span, definition_span}
+pub use Rattle.heap_reader.specs.DefinitionSpans.{term_span, definition_span}
 use Rattle.proof_syntax.specs.declared.tree.PairTree.{PairTree}
-use Rattle.proof_syntax.specs.Trees.{Entailment, Judgement, Entails, From, LinkData, Reason, Absurd, Rewrite, Split, Distinct, Weaken, Unfold, Cut, Done, Choose, PureRight, Instantiate, Frame, UnfoldRight, Exec, Drop, Link, Node}
+use Rattle.proof_syntax.specs.Trees.{Entailment, Judgement, Entails, From, LinkData, Reason, Absurd, Rewrite, Split}
+use Rattle.proof_syntax.specs.Trees.{Distinct, Weaken, Unfold, Cut, Done, Choose, PureRight, Instantiate, Frame}
+use Rattle.proof_syntax.specs.Trees.{UnfoldRight, Exec, Drop, Link, Node}
 
 -- a program variable: "$" and its number
 abbrev pub variable_span : ℕ → ℕ

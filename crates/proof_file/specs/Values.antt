@@ -10,12 +10,14 @@ use Rattle.heap_formula.specs.declared.proof_rules.Link.{Link as LinkValue}
 use Rattle.heap_formula.specs.declared.proof_rules.Reason.{Reason as ReasonValue}
 use Rattle.heap_formula.specs.declared.proof_rules.Reason.TheVariants.{Step, Back}
 use Rattle.heap_reader.specs.Trees.{Heading}
-pub use Rattle.pred_reader.specs.Values.{term_value, definition_value}
+pub use Rattle.heap_reader.specs.DefinitionValues.{term_value, definition_value}
 use Rattle.heap_reader.specs.Values.{heap_value, entailment_value}
 use Rattle.proof_syntax.specs.declared.tree.SideTree.{SideTree}
 use Rattle.proof_syntax.specs.declared.tree.SideTree.TheVariants.{Left, Right}
 use Rattle.proof_syntax.specs.declared.tree.PairTree.{PairTree}
-use Rattle.proof_syntax.specs.Trees.{Judgement as JudgementTree, Entails, From, LinkData, Reason, Absurd, Rewrite, Split, Distinct, Weaken, Unfold, Cut, Done, Choose, PureRight, Instantiate, Frame, UnfoldRight, Exec, Drop, Link, Node}
+use Rattle.proof_syntax.specs.Trees.{Judgement as JudgementTree, Entails, From, LinkData, Reason, Absurd, Rewrite}
+use Rattle.proof_syntax.specs.Trees.{Split, Distinct, Weaken, Unfold, Cut, Done, Choose, PureRight, Instantiate, Frame}
+use Rattle.proof_syntax.specs.Trees.{UnfoldRight, Exec, Drop, Link, Node}
 use Rattle.proof_file.specs.FileNodes.{FileNode}
 
 abbrev pub judgement_value : List Heading → JudgementTree → Judgement
@@ -30,7 +32,12 @@ abbrev pub pair_value : PairTree → ℕ × Term
 pair_value p = (p.variable, term_value p.value)
 
 abbrev pub link_value : LinkData → LinkValue
-link_value l = record { target = l.target; subst = map pair_value l.substitution; map = l.mapped; disjuncts = l.disjuncts }
+link_value l = record {
+  target = l.target;
+  subst = map pair_value l.substitution;
+  map = l.mapped;
+  disjuncts = l.disjuncts;
+}
 
 abbrev pub reason_value : List Heading → Reason → ReasonValue
 reason_value hs Absurd = Step rules.Absurd
@@ -51,4 +58,8 @@ reason_value hs (Drop k) = Step (rules.Drop k)
 reason_value hs (Link l) = Back (link_value l)
 
 abbrev pub node_value : List Heading → Node → FileNode
-node_value hs n = record { judgement = judgement_value hs n.judgement; reason = reason_value hs n.reason; premises = n.premises }
+node_value hs n = record {
+  judgement = judgement_value hs n.judgement;
+  reason = reason_value hs n.reason;
+  premises = n.premises;
+}

@@ -16,16 +16,20 @@ use Rattle.heap_formula.specs.declared.proof_rules.Reason.TheVariants.{Step, Bac
 use Rattle.heap_formula.specs.Definitions.{Definition as DefinitionValue}
 use Rattle.cyc_lex.specs.Spacing.{text_of}
 use Rattle.heap_syntax.specs.declared.version.Version.{Version}
-pub use Rattle.pred_reader.specs.Written.{term_tree, pure_tree, name_in, name_of, spatial_tree, heap_tree, definition_tree}
-use Rattle.command_syntax.specs.declared.tree.OperandTree.{OperandTree}
-use Rattle.command_syntax.specs.declared.tree.OperandTree.TheVariants as operands
-use Rattle.command_syntax.specs.declared.tree.ChangeTree.TheVariants as changes
-use Rattle.command_syntax.specs.declared.tree.CommandTree.{CommandTree}
-use Rattle.command_syntax.specs.declared.tree.CommandTree.TheVariants.{Stop, Goto, Free, IfAny, If, StoreAtNil, Change}
+pub use Rattle.heap_reader.specs.Written.{term_tree, pure_tree, name_in, name_of, spatial_tree, heap_tree}
+pub use Rattle.heap_reader.specs.Written.{definition_tree}
+use Rattle.heap_syntax.specs.declared.lines.tree.OperandTree.{OperandTree}
+use Rattle.heap_syntax.specs.declared.lines.tree.OperandTree.TheVariants as operands
+use Rattle.heap_syntax.specs.declared.lines.tree.ChangeTree.TheVariants as changes
+use Rattle.heap_syntax.specs.declared.lines.tree.CommandTree.{CommandTree}
+use Rattle.heap_syntax.specs.declared.lines.tree.CommandTree.TheVariants.{Stop, Goto, Free, IfAny, If, StoreAtNil}
+use Rattle.heap_syntax.specs.declared.lines.tree.CommandTree.TheVariants.{Change}
 use Rattle.proof_syntax.specs.declared.tree.SideTree.{SideTree}
 use Rattle.proof_syntax.specs.declared.tree.SideTree.TheVariants.{Left, Right}
 use Rattle.proof_syntax.specs.declared.tree.PairTree.{PairTree}
-use Rattle.proof_syntax.specs.Trees.{Line, Judgement as JudgementTree, Entails, From, LinkData, Reason, Absurd, Rewrite, Split, Distinct, Weaken, Unfold, Cut, Done, Choose, PureRight, Instantiate, Frame, UnfoldRight, Exec, Drop, Link, Node, File}
+use Rattle.proof_syntax.specs.Trees.{Line, Judgement as JudgementTree, Entails, From, LinkData, Reason, Absurd, Rewrite}
+use Rattle.proof_syntax.specs.Trees.{Split, Distinct, Weaken, Unfold, Cut, Done, Choose, PureRight, Instantiate, Frame}
+use Rattle.proof_syntax.specs.Trees.{UnfoldRight, Exec, Drop, Link, Node, File}
 use Rattle.proof_syntax.specs.Grammar.{body}
 use Rattle.proof_file.specs.FileNodes.{FileNode}
 
@@ -76,7 +80,12 @@ abbrev pub pair_tree : ℕ × Term → PairTree
 pair_tree p = record { variable = p.0; value = term_tree p.1 }
 
 abbrev pub link_tree : LinkValue → LinkData
-link_tree l = record { target = l.target; substitution = map pair_tree l.subst; mapped = l.map; disjuncts = l.disjuncts }
+link_tree l = record {
+  target = l.target;
+  substitution = map pair_tree l.subst;
+  mapped = l.map;
+  disjuncts = l.disjuncts;
+}
 
 abbrev pub rule_tree : List DefinitionValue → Rule → Reason
 rule_tree ds rules.Absurd = Absurd
@@ -100,11 +109,20 @@ reason_tree ds (Step rule) = rule_tree ds rule
 reason_tree ds (Back link) = Link (link_tree link)
 
 abbrev pub node_tree : List DefinitionValue → FileNode → Node
-node_tree ds n = record { judgement = judgement_tree ds n.judgement; reason = reason_tree ds n.reason; premises = n.premises }
+node_tree ds n = record {
+  judgement = judgement_tree ds n.judgement;
+  reason = reason_tree ds n.reason;
+  premises = n.premises;
+}
 
 -- the tree of a version with these definitions, lines and nodes
 abbrev pub tree_of : Version → List DefinitionValue → List Command → List FileNode → File
-tree_of version ds cs ns = record { version = version; definitions = map (definition_tree ds) ds; lines = lines_tree cs; nodes = map (node_tree ds) ns }
+tree_of version ds cs ns = record {
+  version = version;
+  definitions = map (definition_tree ds) ds;
+  lines = lines_tree cs;
+  nodes = map (node_tree ds) ns;
+}
 
 -- their text
 abbrev pub text_of_file : Version → List DefinitionValue → List Command → List FileNode → List ℕ

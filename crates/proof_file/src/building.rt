@@ -7,7 +7,7 @@ ghost use Rattle.proof_syntax.specs.Trees.{definition_of, node_of};
 ghost use Rattle.proof_file.specs.Building.{front_of, AreSaid, IsNodeMade};
 ghost use Rattle.proof_file.specs.Flaws.{headings, node_flaw, first_node, file_flaw};
 ghost use Rattle.proof_file.specs.Spans.{node_span};
-ghost use Rattle.line_reader.specs.Values.{program_value};
+ghost use Rattle.heap_reader.specs.LineValues.{program_value};
 ghost use Rattle.proof_file.specs.Values.{definition_value, node_value};
 
 use crate::file::ProofFile;
@@ -15,14 +15,14 @@ use crate::node::{FileNode, FileNodes};
 use crate::scope::ProgramVariables;
 use crate::values::value_of_node;
 use crate::walk::walk_node;
-use cyc_limits::MOST_PREDICATES;
-use cyc_memory::OutOfMemory;
+use cyc_basics::limits::MOST_PREDICATES;
+use cyc_basics::memory::OutOfMemory;
 use goto_lang::Program;
+use heap_reader::definitions::{definition_values, walk_definitions};
+use heap_reader::lines::{program, walk_lines};
 use heap_reader::{Flaw, Heads};
 use heap_syntax::Version;
-use line_reader::{program, walk_lines};
 use pred_defs::Defs;
-use pred_reader::{definition_values, walk_definitions};
 use proof_syntax::{DefinitionTree, LineTree, NodeTree};
 use std::alloc::Global;
 
@@ -113,8 +113,8 @@ pub fn front_values(
     Ok(FileFront { defs, program })
 }
 
-/// What a node says that the grammar has, which begins at a token and before which so many nodes stand, in a file of so many
-/// lines.
+/// What a node says that the grammar has, which begins at a token and before which so many nodes stand, in a file of so
+/// many lines.
 pub fn node_of_tree(
     alloc: Global,
     heads: &Heads<'_>,

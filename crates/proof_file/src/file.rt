@@ -6,7 +6,7 @@ ghost use Rattle.proof_file.specs.Readable.{are_readable, are_universal_commands
 ghost use Rattle.proof_file.specs.Flaws.{file_flaw};
 ghost use Rattle.proof_file.specs.Fits.{file-fit};
 ghost use Rattle.proof_file.specs.Written.{tree_of};
-ghost use Rattle.cyc_limits.specs.declared.TheConstants.{MOST_NODES};
+ghost use Rattle.cyc_basics.specs.declared.limits.TheConstants.{MOST_NODES};
 
 use crate::node::FileNodes;
 use goto_lang::Program;
@@ -14,9 +14,9 @@ use heap_syntax::Version;
 use pred_defs::Defs;
 
 /// A proof file: the version of the format, the definitions, the program, and the nodes of the proof, node 0 being its
-/// root. There is a node, no existential variable stands in a command, in an antecedent or a symbolic state, in the terms
-/// of a Split or an Instantiate, or in the values of a link's substitution, and each judgement that starts from a line
-/// names one of the program's. The file has a text: its tree fits the grammar, and has no flaw.
+/// root. There is a node, no existential variable stands in a command, in an antecedent or a symbolic state, in the
+/// terms of a Split or an Instantiate, or in the values of a link's substitution, and each judgement that starts from a
+/// line names one of the program's. The file has a text: its tree fits the grammar, and has no flaw.
 #[derive(Drop)]
 pub struct ProofFile {
     pub version: Version,

@@ -1,20 +1,20 @@
 // The first flaw of a file, as it shows in what is kept of its trees.
 ghost use Rattle.std.specs.Prelude.{ℕ, List, map};
 ghost use Rattle.heap_syntax.specs.declared.keep.Keep.TheVariants.{Beyond};
-ghost use Rattle.pred_syntax.specs.Trees.{Definition};
-ghost use Rattle.pred_syntax.specs.Keeping.{definition_front};
+ghost use Rattle.heap_syntax.specs.DefinitionTrees.{Definition};
+ghost use Rattle.heap_syntax.specs.DefinitionKeeping.{definition_front};
 ghost use Rattle.proof_syntax.specs.Trees.{Node};
 ghost use Rattle.proof_syntax.specs.Keeping.{node_front};
 ghost use Rattle.heap_reader.specs.Trees.{Heading};
 ghost use Rattle.heap_reader.specs.Flaws.{listed_flaw};
-ghost use Rattle.pred_reader.specs.Flaws.{definition_flaw};
-ghost use Rattle.pred_reader.specs.Spans.{definition_span};
+ghost use Rattle.heap_reader.specs.DefinitionFlaws.{definition_flaw};
+ghost use Rattle.heap_reader.specs.DefinitionSpans.{definition_span};
 ghost use Rattle.proof_file.specs.Flaws.{node_flaw};
 ghost use Rattle.proof_file.specs.Fronts.{KeepsEnough, HasItsFlaw, IsWholeIfFlawless};
 
-/// Where more members are kept of each list than any limit allows, the first flaw of what is kept is the first flaw, and
-/// without a flaw all is kept: so a reader need not hold what stands after a member that is one too many. The function does
-/// nothing.
+/// Where more members are kept of each list than any limit allows, the first flaw of what is kept is the first flaw,
+/// and without a flaw all is kept: so a reader need not hold what stands after a member that is one too many. The
+/// function does nothing.
 pub fn flaws_show_in_what_is_kept()
     ensures definitions { (most m : ℕ) → KeepsEnough most m → (hs : List Heading) (n k : ℕ) (ds : List Definition)
         → HasItsFlaw (listed_flaw (definition_flaw most hs) definition_span n k)

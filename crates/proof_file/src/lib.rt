@@ -6,6 +6,7 @@ mod file;
 mod fronts;
 mod node;
 mod scope;
+pub mod texts;
 mod values;
 mod walk;
 

@@ -1,9 +1,9 @@
 // The program variables of proof files.
 
+use cyc_basics::limits::GREATEST_PROGRAM_VARIABLE;
 use cyc_lex::What;
-use cyc_limits::GREATEST_PROGRAM_VARIABLE;
+use heap_reader::lines::VariableReader;
 use heap_reader::{Flaw, over};
-use line_reader::VariableReader;
 
 /// Universal variables as program variables, of which there are at most 64.
 #[derive(Clone, Copy)]
@@ -12,7 +12,7 @@ pub struct ProgramVariables;
 impl VariableReader for ProgramVariables {
     ghost use Rattle.proof_file.specs.Spans as spans;
     ghost use Rattle.proof_file.specs.Flaws as flaws;
-    ghost use Rattle.line_reader.specs.Values as values;
+    ghost use Rattle.heap_reader.specs.LineValues as values;
 
     type Variable = u32;
 

@@ -3,15 +3,16 @@ ghost use Rattle.std.specs.Prelude.{◌≡◌, ◌<◌, ◌≤◌, length, map, 
 ghost use Rattle.heap_formula.specs.Words.{Each};
 ghost use Rattle.proof_syntax.specs.Trees.{judgement_of, link_of, reason_of, node_of};
 ghost use Rattle.proof_file.specs.Small.{IsSmallJudgement, IsSmallPair, IsSmallReason, IsSmallNode};
-ghost use Rattle.proof_file.specs.Values.{judgement_value, side_value, pair_value, link_value, reason_value, node_value};
+ghost use Rattle.proof_file.specs.Values.{judgement_value, side_value, pair_value, link_value, reason_value};
+ghost use Rattle.proof_file.specs.Values.{node_value};
 
 use crate::node::FileNode;
-use cyc_limits::MOST_PREDICATES;
-use cyc_memory::OutOfMemory;
+use cyc_basics::limits::MOST_PREDICATES;
+use cyc_basics::memory::OutOfMemory;
 use heap_formula::{Judgement, Link, Positions, Reason, Rule, Side, Subst};
+use heap_reader::definitions::Scope;
 use heap_reader::{Heads, TermReader, entailment_value, heap_value};
 use logics::Numbers;
-use pred_reader::Scope;
 use proof_syntax::{JudgementTree, LinkTree, NodeTree, PairTree, ReasonTree, SideTree};
 use std::alloc::Global;
 

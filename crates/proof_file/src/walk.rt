@@ -1,19 +1,21 @@
 // A walk over a node's tree in the order of its tokens, up to the first flaw. Each function is given the number of the
-// part's first token and gives that of the token after it and the one that follows every part of its kind. A heap has at
-// most `most` spatial atoms.
+// part's first token and gives that of the token after it and the one that follows every part of its kind. A heap has
+// at most `most` spatial atoms.
 ghost use Rattle.std.specs.Prelude.{◌≡◌, ◌+◌, ◌<◌, ◌^◌, nat_lt};
 ghost use Rattle.cyc_lex.specs.declared.fault.What.TheVariants.{Variable};
 ghost use Rattle.proof_syntax.specs.Trees.{heap_of, entailment_of, judgement_of, link_of, reason_of, node_of};
 ghost use Rattle.heap_reader.specs.Spans.{total, total_or, heap_span, premises_rest};
 ghost use Rattle.heap_reader.specs.Flaws.{or_later, over_if, listed_flaw, IsWalk};
-ghost use Rattle.proof_file.specs.Spans.{term_span, entailment_span, judgement_span, pair_span, link_span, reason_span, node_span};
-ghost use Rattle.proof_file.specs.Flaws.{term_flaw, entailment_flaw, state_flaw, judgement_flaw, pair_flaw, reason_flaw, node_flaw};
-ghost use Rattle.pred_reader.specs.declared.scope.Scope.TheVariants.{Outside};
+ghost use Rattle.proof_file.specs.Spans.{term_span, entailment_span, judgement_span, pair_span, link_span, reason_span};
+ghost use Rattle.proof_file.specs.Spans.{node_span};
+ghost use Rattle.proof_file.specs.Flaws.{term_flaw, entailment_flaw, state_flaw, judgement_flaw, pair_flaw};
+ghost use Rattle.proof_file.specs.Flaws.{reason_flaw, node_flaw};
+ghost use Rattle.heap_reader.specs.declared.definitions.scope.Scope.TheVariants.{Outside};
 
+use cyc_basics::limits::{GREATEST_VARIABLE, MOST_NODES};
 use cyc_lex::{IllFault, What};
-use cyc_limits::{GREATEST_VARIABLE, MOST_NODES};
+use heap_reader::definitions::Scope;
 use heap_reader::{Flaw, Heads, TermReader, ill, over, walk_heap, walk_heaps};
-use pred_reader::Scope;
 use proof_syntax::{
     EntailmentTree, HeapTree, JudgementTree, LinkTree, NodeTree, PairTree, ReasonTree, TermTree,
 };

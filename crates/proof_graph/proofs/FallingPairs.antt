@@ -18,5 +18,6 @@ pub falls_of : (pairs : List Pair) (σ τ : Stages) → Follows pairs σ τ → 
 falls_of [] σ τ f i p e = absurd cc
 falls_of (q ∷ qs) σ τ f zero p e =
     let same : trace_pair q ≡ p = cc in
-    subst (λ (r : GraphPair). (τ r.1 ≤ σ r.0) × (r.2 ≡ true → τ r.1 < σ r.0)) same (kept_of q.progress (τ q.new) (σ q.old) f.0, less_of q.progress (τ q.new) (σ q.old) f.0)
+    subst (λ (r : GraphPair). (τ r.1 ≤ σ r.0) × (r.2 ≡ true → τ r.1 < σ r.0)) same
+    (kept_of q.progress (τ q.new) (σ q.old) f.0, less_of q.progress (τ q.new) (σ q.old) f.0)
 falls_of (q ∷ qs) σ τ f (suc i) p e = falls_of qs σ τ f.1 i p e

@@ -2,7 +2,8 @@
 
 ghost use Rattle.std.specs.Prelude.{IsTrue, ◌≡◌, ◌<◌, ◌≤◌, ◌↔◌, [], ◌∷◌, ◌++◌, Err, length, IfOk, OnOk, OnErr};
 ghost use Rattle.trace_pairs.specs.Graph.{IsGraph};
-ghost use Rattle.proof_graph.specs.Nodes.{open_node, with_reason, without_reason, with_premise, changed_at, nodes_below, HasPremise, HasJudgement};
+ghost use Rattle.proof_graph.specs.Nodes.{open_node, with_reason, without_reason, with_premise, changed_at};
+ghost use Rattle.proof_graph.specs.Nodes.{nodes_below, HasPremise, HasJudgement};
 ghost use Rattle.proof_graph.specs.NodeViews.{IsViewed};
 ghost use Rattle.proof_graph.specs.Traces.{trace_graph_of, HasJoints};
 
@@ -10,8 +11,8 @@ use crate::graph_nodes::{NodeView, StoredNode};
 use crate::nodes::{GraphNode, PremisePairs};
 use crate::traces::{traces_of, traces_with};
 use bumpalo::Bump;
-use cyc_limits::MOST_NODES;
-use cyc_memory::OutOfMemory;
+use cyc_basics::limits::MOST_NODES;
+use cyc_basics::memory::OutOfMemory;
 use heap_formula::{Judgement, Reason};
 use std::alloc::{AllocError, Global};
 use std::marker::Model;
@@ -56,7 +57,7 @@ impl From<AllocError> for GraphFault {
 impl<'a> Model for Graph<'a> {
     ghost use Rattle.std.specs.Prelude.{List, length, ◌≤◌};
     ghost use Rattle.proof_graph.specs.declared.nodes.GraphNode.{GraphNode};
-    ghost use Rattle.cyc_limits.specs.declared.TheConstants.{MOST_NODES};
+    ghost use Rattle.cyc_basics.specs.declared.limits.TheConstants.{MOST_NODES};
 
     ghost Value = { List GraphNode };
 
@@ -176,8 +177,8 @@ impl<'a> Graph<'a> {
         node.judgement(self.alloc)
     }
 
-    /// The trace graph: for each node the positions of its judgement, and an edge for each slot that is filled, in order,
-    /// with the pairs of that premise. The first node is node 0.
+    /// The trace graph: for each node the positions of its judgement, and an edge for each slot that is filled, in
+    /// order, with the pairs of that premise. The first node is node 0.
     pub fn trace_graph(&self) -> Result<TraceGraph, OutOfMemory>
         ensures value { IfOk result (λ g. g ≡ trace_graph_of self.now) }
 
@@ -187,8 +188,8 @@ impl<'a> Graph<'a> {
         traces_of(self.alloc, &self.nodes)
     }
 
-    /// The trace graph that would be, had the node this reason with these pairs. The graph stays as it is, and the arena
-    /// takes nothing.
+    /// The trace graph that would be, had the node this reason with these pairs. The graph stays as it is, and the
+    /// arena takes nothing.
     pub fn trace_graph_with(
         &self,
         node: u32,

@@ -1,14 +1,16 @@
 //! The nodes of a graph, with what the arena holds of them.
 
 ghost use Rattle.std.specs.Prelude.{◌≡◌, ◌<◌, length, map, option_map, IfOk, OnOk, OnErr};
-ghost use Rattle.proof_graph.specs.Nodes.{changed_at, open_node, with_slot, with_reason, without_reason, with_premise, node_below, premise_below, first_slot as first_slot_of, premises_of as premises_with};
+ghost use Rattle.proof_graph.specs.Nodes.{changed_at, open_node, with_slot, with_reason, without_reason, with_premise};
+ghost use Rattle.proof_graph.specs.Nodes.{node_below, premise_below, first_slot as first_slot_of};
+ghost use Rattle.proof_graph.specs.Nodes.{premises_of as premises_with};
 ghost use Rattle.proof_graph.specs.ReasonViews.{reason_of};
 
 use crate::heap_views::JudgementView;
 use crate::nodes::{GraphNode, GraphPremises, PremiseView};
 use crate::reason_views::{ReasonView, store_reason};
 use bumpalo::Bump;
-use cyc_memory::OutOfMemory;
+use cyc_basics::memory::OutOfMemory;
 use heap_formula::{Judgement, Pair, Pairs, Reason};
 use smallvec::SmallVec;
 use std::alloc::Global;

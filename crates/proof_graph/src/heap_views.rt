@@ -1,11 +1,11 @@
 //! Heaps and judgements whose atoms lie in an arena.
 
 ghost use Rattle.std.specs.Prelude.{◌≡◌, ◌<◌, ◌≤◌, length, IfOk};
-ghost use Rattle.cyc_limits.specs.declared.TheConstants.{MOST_DISJUNCTS, MOST_PURE, MOST_SPATIAL};
+ghost use Rattle.cyc_basics.specs.declared.limits.TheConstants.{MOST_DISJUNCTS, MOST_PURE, MOST_SPATIAL};
 
 use crate::heap_lists::heap_views;
 use bumpalo::Bump;
-use cyc_memory::OutOfMemory;
+use cyc_basics::memory::OutOfMemory;
 use heap_formula::{Disjuncts, Heap, Judgement, Pure, Spatial};
 use std::alloc::Global;
 

@@ -10,7 +10,7 @@ mod nodes;
 mod reason_views;
 mod traces;
 
-pub use cyc_memory::OutOfMemory;
+pub use cyc_basics::memory::OutOfMemory;
 pub use graph::{Graph, GraphFault};
 pub use graph_nodes::NodeView;
 pub use heap_views::{DisjunctsView, HeapView, JudgementView};

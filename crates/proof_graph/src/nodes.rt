@@ -3,7 +3,7 @@
 ghost use Rattle.std.specs.Prelude.{◌≡◌, IfOk};
 ghost use Rattle.proof_graph.specs.Nodes.{premise_below, with_slot};
 
-use cyc_memory::OutOfMemory;
+use cyc_basics::memory::OutOfMemory;
 use heap_formula::{Judgement, Pair, Pairs, Reason};
 use std::alloc::Global;
 use std::marker::Model;

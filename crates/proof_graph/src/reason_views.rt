@@ -5,7 +5,7 @@ ghost use Rattle.proof_graph.specs.ReasonViews.{rule_of, link_of, reason_of};
 
 use crate::heap_views::HeapView;
 use bumpalo::Bump;
-use cyc_memory::OutOfMemory;
+use cyc_basics::memory::OutOfMemory;
 use heap_formula::{Link, Positions, Reason, Rule, Side, Subst, Term};
 use std::alloc::Global;
 

@@ -5,13 +5,15 @@ ghost use Rattle.heap_formula.specs.Judgements.{antecedent as antecedent_of_judg
 ghost use Rattle.proof_graph.specs.HeapViews.{heap_of, judgement_of};
 ghost use Rattle.trace_pairs.specs.Graph.{IsPositionSet, IsGraph};
 ghost use Rattle.proof_graph.specs.Nodes.{with_reason, changed_at, premises_of};
-ghost use Rattle.proof_graph.specs.Traces.{positions_of, predicate_places as places_from, trace_edge as trace_edge_to, graph_edge, HasJoints, trace_node as trace_node_of, edges_of as edges_of_premises, trace_graph_of};
+ghost use Rattle.proof_graph.specs.Traces.{positions_of, predicate_places as places_from, trace_edge as trace_edge_to};
+ghost use Rattle.proof_graph.specs.Traces.{graph_edge, HasJoints, trace_node as trace_node_of};
+ghost use Rattle.proof_graph.specs.Traces.{edges_of as edges_of_premises, trace_graph_of};
 
 use crate::graph_nodes::{StoredNode, first_slot};
 use crate::heap_views::{HeapView, JudgementView};
 use crate::nodes::PremiseView;
-use cyc_limits::MOST_SPATIAL;
-use cyc_memory::OutOfMemory;
+use cyc_basics::limits::MOST_SPATIAL;
+use cyc_basics::memory::OutOfMemory;
 use heap_formula::{Heap, Judgement, NodeEdge, Pair, Pairs, Reason, Spatial};
 use std::alloc::Global;
 use trace_pairs::{Edge, Node, TraceGraph};

@@ -1,5 +1,6 @@
 -- A node alone in a file, and the tokens of what is written.
-use Rattle.std.proofs.Common.{◌≡◌, ℕ, ◌+◌, ◌-◌, ◌≤◌, List, [], ◌∷◌, ◌++◌, length, length-append, take, drop, map, Ok, refl, sym, ap, subst, ◌∙◌, append_assoc, arith}
+use Rattle.std.proofs.Common.{◌≡◌, ℕ, ◌+◌, ◌-◌, ◌≤◌, List, [], ◌∷◌, ◌++◌, length, length-append, take, drop, map, Ok}
+use Rattle.std.proofs.Common.{refl, sym, ap, subst, ◌∙◌, append_assoc, arith}
 use Rattle.std.proofs.lemmas.List.{take-map, drop-map, length-map}
 use Rattle.std.proofs.Math.Seq.{take-append_seam}
 use Rattle.cyc_lex.specs.declared.token.Token.{Token}
@@ -11,8 +12,9 @@ use Rattle.cyc_lex.proofs.Lexemes.{lexemes-read}
 use Rattle.cyc_grammar.specs.Syntax.{fits_many}
 use Rattle.heap_syntax.specs.declared.version.Version.TheVariants.{One}
 use Rattle.proof_syntax.specs.Trees.{Definition, Line, Node, File}
-use Rattle.proof_syntax.specs.Grammar.{cyclist_word, proof_word, version, semicolon, node_word, last_word, premises, definitions, node, nodes, more_nodes, body, file}
-use Rattle.command_syntax.specs.Grammar as commands
+use Rattle.proof_syntax.specs.Grammar.{cyclist_word, proof_word, version, semicolon, node_word, last_word, premises}
+use Rattle.proof_syntax.specs.Grammar.{definitions, node, nodes, more_nodes, body, file}
+use Rattle.heap_syntax.specs.LineGrammar as commands
 use Rattle.proof_syntax.proofs.GrammarEnds.{body-inner}
 use Rattle.proof_file.specs.declared.file.ProofFile.{ProofFile}
 use Rattle.proof_file.specs.Written.{tree_of, text_of_file}
@@ -45,11 +47,14 @@ same_tokens : (ts us : List Placed) (bytes : List ℕ) → tokens_of bytes ≡ O
 same_tokens ts us bytes first second = cc
 
 -- the tokens of a text that spells words have these words, and then the end
-pub spelled : (bytes : List ℕ) (ws : List Word) (ts : List Placed) → Spells bytes ws → tokens_of bytes ≡ Ok ts → map word_of ts ≡ ws ++ end_word ∷ []
+pub spelled : (bytes : List ℕ) (ws : List Word) (ts : List Placed) → Spells bytes ws → tokens_of bytes ≡ Ok ts
+    → map word_of ts ≡ ws ++ end_word ∷ []
 spelled bytes ws ts has told = ap (map word_of) (same_tokens ts has.0 bytes told has.1) ∙ has.2
 
 -- the tokens of a file's text are those of its tree
-pub file_spelled : (f : ProofFile) (bytes : List ℕ) (ts : List Placed) → bytes ≡ text_of_file f.version f.defs.list f.program f.nodes → tokens_of bytes ≡ Ok ts → map word_of ts ≡ file.words (tree_of f.version f.defs.list f.program f.nodes)
+pub file_spelled : (f : ProofFile) (bytes : List ℕ) (ts : List Placed)
+    → bytes ≡ text_of_file f.version f.defs.list f.program f.nodes → tokens_of bytes ≡ Ok ts
+    → map word_of ts ≡ file.words (tree_of f.version f.defs.list f.program f.nodes)
 unfolding file
 file_spelled f bytes ts is told =
     let t = tree_of f.version f.defs.list f.program f.nodes in
@@ -71,7 +76,8 @@ words_of_placed [] = refl
 words_of_placed (x ∷ xs) = ap (λ ws. word x ∷ ws) (words_of_placed xs)
 
 -- between the heading and the end stand the words of the node
-between : (ws st : List Word) → ws ≡ front st ++ behind → (length ws ≡ length st + 9) × (drop 5 (take (length ws - 4) ws) ≡ st)
+between : (ws st : List Word) → ws ≡ front st ++ behind
+    → (length ws ≡ length st + 9) × (drop 5 (take (length ws - 4) ws) ≡ st)
 unfolding front behind
 between ws st is =
     let size : length ws ≡ length st + 9 = ap length is ∙ (let l = length-append (front st) behind in omega arith) in
@@ -79,9 +85,12 @@ between ws st is =
     (size, (λ i. drop 5 (take (span i) (is i))) ∙ ap (drop 5) (take-append_seam (front st) behind))
 
 -- the same of the tokens of the text of a node alone
-pub tokens_between : (n : Node) (bytes : List ℕ) (ts : List Placed) (xs : List Token) → Spells bytes (body.words (alone n)) → tokens_of bytes ≡ Ok ts → map placed xs ≡ ts → (9 ≤ length xs) × (map word (drop 5 (take (length xs - 4) xs)) ≡ statement n)
+pub tokens_between : (n : Node) (bytes : List ℕ) (ts : List Placed) (xs : List Token)
+    → Spells bytes (body.words (alone n)) → tokens_of bytes ≡ Ok ts → map placed xs ≡ ts
+    → (9 ≤ length xs) × (map word (drop 5 (take (length xs - 4) xs)) ≡ statement n)
 tokens_between n bytes ts xs spells told are =
-    let is = sym (words_of_placed xs) ∙ ap (map word_of) are ∙ spelled bytes (body.words (alone n)) ts spells told ∙ alone_words n in
+    let is = sym (words_of_placed xs) ∙ ap (map word_of) are ∙ spelled bytes (body.words (alone n)) ts spells told
+    ∙ alone_words n in
     let both = between (map word xs) (statement n) is in
     let size : length (map word xs) ≡ length xs = length-map xs word in (
       omega (arith, both.0),
@@ -92,8 +101,12 @@ tokens_between n bytes ts xs spells told are =
     )
 
 -- what is made to be written is the node alone
-pub made_fits : (n : Node) (ds : List Definition) (ls : List Line) (ns : List Node) (ps : List ℕ) → ds ≡ [] → ls ≡ [] → ps ≡ [] → ns ≡ record { judgement = n.judgement; reason = n.reason; premises = ps } ∷ [] → node.fits n → file.fits (record { version = One; definitions = ds; lines = ls; nodes = ns })
+pub made_fits : (n : Node) (ds : List Definition) (ls : List Line) (ns : List Node) (ps : List ℕ) → ds ≡ [] → ls ≡ []
+    → ps ≡ [] → ns ≡ record { judgement = n.judgement; reason = n.reason; premises = ps } ∷ [] → node.fits n
+    → file.fits (record { version = One; definitions = ds; lines = ls; nodes = ns })
 made_fits n ds ls ns ps d l p is fits =
-    let alone_is : ns ≡ (alone n).nodes = is ∙ ap (λ (qs : List ℕ). record { judgement = n.judgement; reason = n.reason; premises = qs } ∷ []) p in
-    let same : alone n ≡ record { version = One; definitions = ds; lines = ls; nodes = ns } = λ i. record { version = One; definitions = sym d i; lines = sym l i; nodes = sym alone_is i } in
+    let alone_is : ns ≡ (alone n).nodes = is ∙ ap (λ (qs : List ℕ). record
+    { judgement = n.judgement; reason = n.reason; premises = qs } ∷ []) p in
+    let same : alone n ≡ record { version = One; definitions = ds; lines = ls; nodes = ns } = λ i.
+    record { version = One; definitions = sym d i; lines = sym l i; nodes = sym alone_is i } in
     subst (λ (f : File). file.fits f) same (alone_fits n fits)

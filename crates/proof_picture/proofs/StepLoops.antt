@@ -7,7 +7,8 @@ use Rattle.std.proofs.Math.Bool.{or-false}
 use Rattle.trace_pairs.specs.declared.lasso.Step.{Step}
 use Rattle.proof_picture.specs.Red.{has_step}
 
-any_more : (test : Step → Bool) (xs : List Step) (s : Step) → list_any test (xs ++ s ∷ []) ≡ (list_any test xs || test s)
+any_more : (test : Step → Bool) (xs : List Step) (s : Step)
+    → list_any test (xs ++ s ∷ []) ≡ (list_any test xs || test s)
 any_more test xs s = list_any-append test xs (s ∷ []) ∙ ap (λ b. list_any test xs || b) (or-false (test s))
 
 either : (t old a : Bool) → cond t true (old || a) ≡ (old || (a || t))
@@ -19,7 +20,9 @@ either false false true = refl
 either false false false = refl
 
 -- one more step is kept
-pub one_more : (path front : List Step) (s : Step) (v i : ℕ) (now next old : Bool) → path ≡ front ++ s ∷ [] → next ≡ cond (nat_eq s.node v && nat_eq s.edge i) true now → now ≡ (old || has_step front v i) → next ≡ (old || has_step path v i)
+pub one_more : (path front : List Step) (s : Step) (v i : ℕ) (now next old : Bool) → path ≡ front ++ s ∷ []
+    → next ≡ cond (nat_eq s.node v && nat_eq s.edge i) true now → now ≡ (old || has_step front v i)
+    → next ≡ (old || has_step path v i)
 one_more path front s v i now next old more added so_far =
     let test : Step → Bool = λ s. nat_eq s.node v && nat_eq s.edge i in
     added

@@ -1,5 +1,6 @@
 -- The labels of the nodes of a file.
-use Rattle.std.specs.Prelude.{◌≡◌, ◌<◌, ◌^◌, ℕ, suc, Bool, List, [], ◌∷◌, ◌++◌, map, length, Option, Some, None, slice_get, Ok}
+use Rattle.std.specs.Prelude.{◌≡◌, ◌<◌, ◌^◌, ℕ, suc, Bool, List, [], ◌∷◌, ◌++◌, map, length, Option, Some, None}
+use Rattle.std.specs.Prelude.{slice_get, Ok}
 use Rattle.cyc_lex.specs.Lexing.{tokens_of}
 use Rattle.cyc_lex.specs.Placed.{Placed}
 use Rattle.cyc_lex.specs.Word.{Word, word_of, EndsOnce}
@@ -31,7 +32,8 @@ abbrev pub labels_of : List (List Bool) → ℕ → List Node → List (List Lab
 labels_of flags v [] = []
 labels_of flags v (n ∷ ns) = label_of_node (flags_at flags v) n ∷ labels_of flags (suc v) ns
 
--- the labels of a file's nodes; the flags say of each node, and of each spatial atom of its antecedent, whether it stands out
+-- the labels of a file's nodes; the flags say of each node, and of each spatial atom of its antecedent, whether it
+-- stands out
 abbrev pub labels_with : ProofFile → List (List Bool) → List (List LabelPart)
 labels_with f flags = labels_of flags 0 (map (node_tree f.defs.list) f.nodes)
 
@@ -39,7 +41,12 @@ labels_with f flags = labels_of flags 0 (map (node_tree f.defs.list) f.nodes)
 
 -- the node without the numbers of its premises, alone in a file
 abbrev pub alone : Node → File
-alone n = record { version = One; definitions = []; lines = []; nodes = record { judgement = n.judgement; reason = n.reason; premises = [] } ∷ [] }
+alone n = record {
+  version = One;
+  definitions = [];
+  lines = [];
+  nodes = record { judgement = n.judgement; reason = n.reason; premises = [] } ∷ [];
+}
 
 -- the tokens of a text, fewer than 2^32
 abbrev pub IsTokensOf : List ℕ → List Placed → Type 0

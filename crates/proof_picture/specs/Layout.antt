@@ -1,5 +1,6 @@
 -- How words are laid out in pieces and lines.
-use Rattle.std.specs.Prelude.{ℕ, ◌+◌, Bool, true, false, ◌&&◌, ◌||◌, not, nat_lt, List, [], ◌∷◌, ◌++◌, length, codes, if◌then◌else◌}
+use Rattle.std.specs.Prelude.{ℕ, ◌+◌, Bool, true, false, ◌&&◌, ◌||◌, not, nat_lt, List, [], ◌∷◌, ◌++◌, length, codes}
+use Rattle.std.specs.Prelude.{if◌then◌else◌}
 use Rattle.std.specs.Str.{bytes_eq}
 use Rattle.cyc_lex.specs.declared.token.Kind.TheVariants.{Name, Symbol}
 use Rattle.cyc_lex.specs.Word.{Word, is_name}
@@ -13,8 +14,8 @@ abbrev pub begins_line : List ℕ → Bool
 begins_line text = bytes_eq text (codes "|-") || (bytes_eq text (codes "or") || bytes_eq text (codes "by"))
 
 -- how far the words have come: whether the spatial atoms of the antecedent have begun; for the atom that is next or has
--- begun, and for each after it, whether it stands out; how many bytes the words of the line have, counted up to a hundred
--- or so; and whether the last word is a comma
+-- begun, and for each after it, whether it stands out; how many bytes the words of the line have, counted up to a
+-- hundred or so; and whether the last word is a comma
 pub record Place : Type 0 where
   pub inside : Bool
   pub flags : List Bool
@@ -56,7 +57,8 @@ is_prime text = bytes_eq text (codes "'")
 abbrev pub gap_before : Place → Bool → List ℕ → Gap
 gap_before place bold text =
     if ends_line place text then gaps.Line
-    else (if is_prime text then gaps.Joined else (if same (stands_out place text) bold then gaps.Within else gaps.Space))
+    else (if is_prime text then gaps.Joined else (if same (stands_out place text)
+    bold then gaps.Within else gaps.Space))
 
 abbrev pub signs_behind : Place → Gap → ℕ
 signs_behind place gaps.Line = 0
@@ -67,7 +69,8 @@ signs_behind place gaps.Space = place.signs
 -- a star leads to the next atom, and a line after the antecedent has none
 abbrev pub flags_behind : Place → List ℕ → List Bool
 flags_behind place text =
-    if begins_line text then [] else (if place.inside && bytes_eq text (codes "*") then other_flags place.flags else place.flags)
+    if begins_line text then [] else (if place.inside && bytes_eq text (codes "*")
+    then other_flags place.flags else place.flags)
 
 abbrev pub after_word : Place → Gap → List ℕ → Place
 after_word place gap text = record {

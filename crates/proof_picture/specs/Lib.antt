@@ -6,3 +6,17 @@ pub mod Red
 pub mod Arrows
 pub mod Carried
 pub mod Pictures
+pub mod Entries
+pub mod Fates
+pub mod Hidden
+pub mod Texts
+pub mod Shown
+pub mod Boxes
+pub mod Folding
+pub mod Naming
+pub mod Kept
+pub mod Marks
+pub mod Words
+pub mod NamedLabels
+pub mod Titles
+pub mod NamedPictures

@@ -1,23 +1,23 @@
 //! The edges that stand in a picture.
 ghost use Rattle.std.specs.Prelude.{◌≡◌, ◌<◌, map, IfOk};
 ghost use Rattle.std.specs.Option.{option_copied};
-ghost use Rattle.node_reasons.specs.Graphs.{Node};
-ghost use Rattle.node_reasons.specs.Answers.{companion_in, targets_of as target_numbers};
+ghost use Rattle.rule_book.specs.Graphs.{Node};
+ghost use Rattle.rule_book.specs.Answers.{companion_in, targets_of as target_numbers};
 ghost use Rattle.proof_file.specs.Links.{is_link as links};
 ghost use Rattle.proof_picture.specs.Arrows.{arrows_with, drawn_of, pairs_at, premises_at, row_at, row_of, rows_of};
 ghost use Rattle.proof_picture.specs.Red.{step_in};
 
 use crate::steps::RefusedSteps;
-use cyc_memory::OutOfMemory;
+use cyc_basics::memory::OutOfMemory;
 use heap_formula::{Judgement, Pairs, Premise, Reason, RuleError};
-use node_reasons::premises_by_reason;
 use proof_file::{FileNode, ProofFile};
+use rule_book::reasons::premises_by_reason;
 use rule_table::antecedent;
 use std::alloc::Global;
 use std::slice::from_ref;
 
-/// An edge of a picture: its number among the edges of its node, counted from 0; the node that it leads to; whether it is
-/// a link to a companion; whether a refused path takes it; and its trace pairs.
+/// An edge of a picture: its number among the edges of its node, counted from 0; the node that it leads to; whether it
+/// is a link to a companion; whether a refused path takes it; and its trace pairs.
 #[derive(Drop)]
 pub struct Arrow {
     pub place: usize,
@@ -27,8 +27,8 @@ pub struct Arrow {
     pub pairs: Pairs,
 }
 
-/// The edges of a node, how many spatial atoms its antecedent has, and how many premises its reason leaves; a link leaves its
-/// companion, and a reason with a fault none.
+/// The edges of a node, how many spatial atoms its antecedent has, and how many premises its reason leaves; a link
+/// leaves its companion, and a reason with a fault none.
 #[derive(Drop)]
 pub struct Row {
     pub atoms: usize,

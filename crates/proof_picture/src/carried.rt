@@ -1,10 +1,11 @@
 //! Which atoms stand out: those from which a trace leads on over a link.
 ghost use Rattle.std.specs.Prelude.{◌≡◌, ◌<◌, map, IfOk};
 ghost use Rattle.proof_picture.specs.Arrows.{drawn_of, row_of};
-ghost use Rattle.proof_picture.specs.Carried.{flag_at as flag_in, flags_of, flags_to, goes_over, is_carried as carries, table};
+ghost use Rattle.proof_picture.specs.Carried.{flag_at as flag_in, flags_of, flags_to, goes_over, is_carried as carries};
+ghost use Rattle.proof_picture.specs.Carried.{table};
 
 use crate::arrows::{Arrow, Row};
-use cyc_memory::OutOfMemory;
+use cyc_basics::memory::OutOfMemory;
 use std::alloc::Global;
 use std::collections::VecDeque;
 
@@ -66,8 +67,8 @@ fn flags_at(
     Ok(flags)
 }
 
-/// For each node, and each spatial atom of its antecedent, whether a trace from it leads on over a link. The nodes are gone
-/// through from the last on, since a trace reaches a link along edges to greater numbers.
+/// For each node, and each spatial atom of its antecedent, whether a trace from it leads on over a link. The nodes are
+/// gone through from the last on, since a trace reaches a link along edges to greater numbers.
 pub fn atoms_carried(alloc: Global, rows: &[Row]) -> Result<VecDeque<Vec<bool>>, OutOfMemory>
     ensures { IfOk result (λ d. map flags_of d.items ≡ table 0 (map row_of rows.now)) }
 {

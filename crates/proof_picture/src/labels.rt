@@ -4,19 +4,20 @@ ghost use Rattle.cyc_lex.specs.Spelling.{Spells};
 ghost use Rattle.proof_syntax.specs.Grammar.{node as node_syntax, body};
 ghost use Rattle.proof_syntax.specs.Trees.{node_of};
 ghost use Rattle.proof_picture.specs.Carried.{flags_of};
-ghost use Rattle.proof_picture.specs.Labels.{alone, label_of_node, labels_of, labels_with, AllFit, IsTokensOf, flags_at as flags_of_node};
+ghost use Rattle.proof_picture.specs.Labels.{alone, label_of_node, labels_of, labels_with, AllFit, IsTokensOf};
+ghost use Rattle.proof_picture.specs.Labels.{flags_at as flags_of_node};
 ghost use Rattle.proof_picture.specs.Layout.{label};
 ghost use Rattle.proof_picture.specs.Pieces.{piece_of, pieces_of};
 
 use crate::layout::lay_out;
 use crate::piece::{Label, Piece};
+use cyc_basics::memory::OutOfMemory;
 use cyc_lex::{Token, Tokens, tokens};
-use cyc_memory::OutOfMemory;
 use heap_syntax::Version;
 use proof_file::ProofFile;
+use proof_file::texts::write_file;
+use proof_syntax::writing::write_tree;
 use proof_syntax::{FileTree, NodeTree, read_tree};
-use proof_text::write_file;
-use proof_writing::write_tree;
 use std::alloc::Global;
 use std::collections::VecDeque;
 

@@ -7,8 +7,8 @@ ghost use Rattle.proof_picture.specs.Pieces.{piece_of};
 
 use crate::piece::Piece;
 use crate::spot::{Gap, Spot};
+use cyc_basics::memory::OutOfMemory;
 use cyc_lex::{Kind, Token, WordWriter};
-use cyc_memory::OutOfMemory;
 use std::alloc::Global;
 use std::marker::Model;
 
@@ -29,7 +29,12 @@ impl<'a> Model for Layout<'a> {
 
     ghost Value = { Laid };
 
-    ghost view = { λ l. record { pieces = map piece_of l.pieces.items; written = l.writer; bold = l.bold; place = place_of l.spot } };
+    ghost view = { λ l. record {
+      pieces = map piece_of l.pieces.items;
+      written = l.writer;
+      bold = l.bold;
+      place = place_of l.spot;
+    } };
 }
 
 /// Writes a word; a number as a symbol is written, since none stands before a parenthesis.

@@ -2,7 +2,8 @@
 ghost use Rattle.std.specs.Prelude.{◌≡◌, IfOk, map};
 ghost use Rattle.proof_picture.specs.Carried.{table};
 ghost use Rattle.proof_picture.specs.Labels.{labels_with};
-ghost use Rattle.proof_picture.specs.Pictures.{IsPicture, boxes_from, box_of, drawn_rows, fault_at as fault_of_node, is_large as has_many_states};
+ghost use Rattle.proof_picture.specs.Pictures.{IsPicture, boxes_from, box_of, drawn_rows, fault_at as fault_of_node};
+ghost use Rattle.proof_picture.specs.Pictures.{is_large as has_many_states};
 ghost use Rattle.proof_picture.specs.Arrows.{row_of};
 ghost use Rattle.proof_picture.specs.Pieces.{pieces_of};
 
@@ -11,7 +12,7 @@ use crate::carried::atoms_carried;
 use crate::labels::labels_of_file;
 use crate::piece::Label;
 use crate::steps::RefusedSteps;
-use cyc_memory::OutOfMemory;
+use cyc_basics::memory::OutOfMemory;
 use heap_formula::RuleFault;
 use proof_check::Verdict;
 use proof_file::ProofFile;

@@ -1,10 +1,12 @@
 //! How far the words of a node have come, and what stands before the next.
 ghost use Rattle.std.specs.Prelude.{◌≡◌};
-ghost use Rattle.proof_picture.specs.Layout.{after_word as spot_after, begins_line as starts_line, first_flag, flags_behind, gap_before, is_prime as is_joined, other_flags, signs_with, stands_out as is_bold, start};
+ghost use Rattle.proof_picture.specs.Layout.{after_word as spot_after, begins_line as starts_line, first_flag};
+ghost use Rattle.proof_picture.specs.Layout.{flags_behind, gap_before, is_prime as is_joined, other_flags, signs_with};
+ghost use Rattle.proof_picture.specs.Layout.{stands_out as is_bold, start};
 ghost use Rattle.proof_picture.specs.Places.{place_of};
 
-/// What stands before a word: nothing that is not between words of a piece, nothing where another piece begins, a space where
-/// one does, or the end of the line.
+/// What stands before a word: nothing that is not between words of a piece, nothing where another piece begins, a space
+/// where one does, or the end of the line.
 #[derive(Clone, Copy)]
 pub enum Gap {
     Within,
@@ -13,8 +15,8 @@ pub enum Gap {
     Line,
 }
 
-/// How far the words have come: whether the spatial atoms of the antecedent have begun; for the atom that is next or has
-/// begun, and for each after it, whether it stands out; how many bytes the words of the line have, counted up to a
+/// How far the words have come: whether the spatial atoms of the antecedent have begun; for the atom that is next or
+/// has begun, and for each after it, whether it stands out; how many bytes the words of the line have, counted up to a
 /// hundred or so; and whether the last word is a comma.
 #[derive(Drop)]
 pub struct Spot<'a> {

@@ -2,7 +2,7 @@
 ghost use Rattle.std.specs.Prelude.{◌≡◌, ◌||◌, ℕ, IfOk, OnOk};
 ghost use Rattle.proof_picture.specs.Red.{has_step, refused_steps, step_in};
 
-use cyc_memory::OutOfMemory;
+use cyc_basics::memory::OutOfMemory;
 use indexmap::IndexSet;
 use proof_check::Verdict;
 use std::alloc::Global;

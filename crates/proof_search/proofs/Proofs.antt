@@ -10,32 +10,33 @@ use Rattle.heap_formula.specs.Judgements.{antecedent}
 use Rattle.heap_formula.specs.Words.{Each}
 use Rattle.goto_lang.specs.Lines.{IsProgram}
 use Rattle.symbolic_exec.proofs.ProgramLines.{program_commands}
-use Rattle.derivation_search.specs.System.{search_of, IsFound}
+use Rattle.derivations.specs.System.{search_of, IsFound}
 use Rattle.formula_reader.specs.declared.problem.Problem.{Problem}
 use Rattle.proof_file.specs.declared.file.ProofFile.{ProofFile}
 use Rattle.proof_file.specs.FileNodes.{FileNode}
 use Rattle.proof_check.specs.Files.{graph_of, AreRight, HasSmallHeaps}
 use Rattle.proof_check.specs.Verdicts.{IsCorrect}
-use Rattle.formula_facts.proofs.AllMembers.{each_at, each_imply}
+use Rattle.heap_formula.proofs.AllMembers.{each_at, each_imply}
 use Rattle.proof_check.proofs.KeptFacts.{root_holds}
 use Rattle.heap_syntax.specs.declared.version.Version.{Version}
 use Rattle.heap_syntax.specs.declared.version.Version.TheVariants.{One, Two}
 use Rattle.heap_syntax.specs.Versions.{most_spatial}
 use Rattle.heap_reader.proofs.Fitting.{most_fits}
-use Rattle.format_limits.specs.Limits.{IsDefinitionWithin, IsHeapWithin, IsJudgementWithin}
-use Rattle.format_limits.proofs.Heaps.{short_spatials}
-use Rattle.format_limits.proofs.Judgements.{first_heap}
-use Rattle.problem_files.specs.Nodes.{IsNodeWithin}
+use Rattle.rule_book.specs.Limits.{IsDefinitionWithin, IsHeapWithin, IsJudgementWithin}
+use Rattle.rule_book.proofs.Heaps.{short_spatials}
+use Rattle.rule_book.proofs.Judgements.{first_heap}
+use Rattle.formula_reader.specs.Nodes.{IsNodeWithin}
 use Rattle.search_moves.specs.Limits.{IsSmall}
 use Rattle.search_moves.specs.Settings.{theory}
 use Rattle.search_moves.specs.Trying.{Theory}
-use Rattle.tableaux.specs.Tableau.{Tableau, replay}
-use Rattle.search_calculus.specs.Search.{calculus_of, search_system}
-use Rattle.found_files.specs.Files.{nodes_made}
-use Rattle.found_files.specs.Found.{IsWithinLimits, AreProof}
-use Rattle.found_files.proofs.Found.{makes_proof}
-use Rattle.derivation_moves.specs.declared.derivation.Derivation.{Derivation}
-use Rattle.derivation_moves.specs.Derivations.{theory_in, nodes_in, goals_in, reasons_in, tableau_in, about, IsInOrder, IsItsSearch}
+use Rattle.derivations.specs.Tableau.{Tableau, replay}
+use Rattle.proof_search.specs.Search.{calculus_of, search_system}
+use Rattle.proof_search.specs.Files.{nodes_made}
+use Rattle.proof_search.specs.Found.{IsWithinLimits, AreProof}
+use Rattle.proof_search.proofs.FileFound.{makes_proof}
+use Rattle.proof_search.specs.declared.moves.derivation.Derivation.{Derivation}
+use Rattle.proof_search.specs.Derivations.{theory_in, nodes_in, goals_in, reasons_in, tableau_in, about, IsInOrder}
+use Rattle.proof_search.specs.Derivations.{IsItsSearch}
 use Rattle.proof_search.specs.Outcomes.{theory_for, search_for, reasons_of, IsProofFor}
 use Rattle.proof_search.proofs.FileNodes.{reasons_made}
 
@@ -52,7 +53,8 @@ limit_positive problem = subst (λ (most : ℕ). 0 < most) (sym problem.limit) (
 
 pub are_small : (problem : Problem) → IsWithinLimits (theory_for problem) problem.goal → Each IsSmall problem.defs.list
 are_small problem limits =
-    each_imply (IsDefinitionWithin problem.defs.most problem.defs.list) IsSmall (λ d h. record { parameters = h.arity; cases = h.few }) problem.defs.list limits.definitions
+    each_imply (IsDefinitionWithin problem.defs.most problem.defs.list) IsSmall
+    (λ d h. record { parameters = h.arity; cases = h.few }) problem.defs.list limits.definitions
 
 -- the moves, with what they found
 pub record HasFound (problem : Problem) (moves : Derivation) : Type 0 where
@@ -63,21 +65,27 @@ pub record HasFound (problem : Problem) (moves : Derivation) : Type 0 where
   pub nodes : tableau.nodes ≡ nodes_in moves
   pub proof : AreProof (theory_for problem) problem.goal (nodes_made (theory_for problem) (nodes_in moves))
 
-pub has_found : (problem : Problem) (moves : Derivation) (most depth : ℕ) → IsInOrder moves → about moves ≡ (problem.defs, (problem.program, problem.goal)) → IsWithinLimits (theory_for problem) problem.goal → IsFound (reasons_in moves) ≡ search_of (search_for problem) most depth → HasFound problem moves
+pub has_found : (problem : Problem) (moves : Derivation) (most depth : ℕ) → IsInOrder moves
+    → about moves ≡ (problem.defs, (problem.program, problem.goal)) → IsWithinLimits (theory_for problem) problem.goal
+    → IsFound (reasons_in moves) ≡ search_of (search_for problem) most depth → HasFound problem moves
 has_found problem moves most depth order is_about limits found =
     let same_defs = ap (λ (x : _). x.0) is_about in
     let same_program = ap (λ (x : _). x.1.0) is_about in
     let same_root = ap (λ (x : _). x.1.1) is_about in
-    let same : theory_in moves ≡ theory_for problem = λ i. record { most = (same_defs i).most; definitions = (same_defs i).list; lines = same_program i } in
+    let same : theory_in moves ≡ theory_for problem = λ i.
+    record { most = (same_defs i).most; definitions = (same_defs i).list; lines = same_program i } in
     let makes = makes_proof (theory_for problem) problem.goal most depth (reasons_in moves) limits (sym found) in
-    let both : makes.tableau ≡ tableau_in moves = same_Some makes.tableau (tableau_in moves) (sym makes.made ∙ ((λ i. replay (calculus_of (sym same i)) (sym same_root i) (reasons_in moves)) ∙ order.is.replayed)) in
+    let both : makes.tableau ≡ tableau_in moves = same_Some makes.tableau (tableau_in moves)
+    (sym makes.made ∙ ((λ i. replay (calculus_of (sym same i)) (sym same_root i) (reasons_in moves))
+    ∙ order.is.replayed)) in
     record {
       same_theory = same;
       closed = sym (ap (λ (b : Tableau Judgement Reason). b.goals) both) ∙ makes.closed;
       tableau = makes.tableau;
       made = makes.made;
       nodes = ap (λ (b : Tableau Judgement Reason). b.nodes) both;
-      proof = subst (λ ns. AreProof (theory_for problem) problem.goal (nodes_made (theory_for problem) ns)) (ap (λ (b : Tableau Judgement Reason). b.nodes) both) makes.proof;
+      proof = subst (λ ns. AreProof (theory_for problem) problem.goal (nodes_made (theory_for problem) ns))
+          (ap (λ (b : Tableau Judgement Reason). b.nodes) both) makes.proof;
     }
 
 -- a proof has a node
@@ -85,18 +93,25 @@ pub some_node : (t : Theory) (goal : Judgement) (nodes : List FileNode) → AreP
 some_node t goal nodes proof = let n = slice_get_within nodes 0 proof.root proof.is_root in omega (arith, n)
 
 -- an antecedent within the limits has few spatial atoms
-few_atoms : (most : ℕ) → most ≤ 32 → (ds : List Definition) (count : ℕ) (j : Judgement) → IsJudgementWithin most ds count j → length (antecedent j).spatial ≤ 32
+few_atoms : (most : ℕ) → most ≤ 32 → (ds : List Definition) (count : ℕ) (j : Judgement)
+    → IsJudgementWithin most ds count j → length (antecedent j).spatial ≤ 32
 few_atoms most bounded ds count j h =
-    let few = short_spatials most (antecedent j) (first_heap (IsHeapWithin most ds) j h.heaps).short in omega (arith, few, bounded)
+    let few = short_spatials most (antecedent j) (first_heap (IsHeapWithin most ds) j h.heaps).short in
+    omega (arith, few, bounded)
 
-small_heaps : (t : Theory) (nodes : List FileNode) → t.most ≤ 32 → Each (IsNodeWithin t.most t.definitions (length t.lines)) nodes → HasSmallHeaps nodes
+small_heaps : (t : Theory) (nodes : List FileNode) → t.most ≤ 32
+    → Each (IsNodeWithin t.most t.definitions (length t.lines)) nodes → HasSmallHeaps nodes
 small_heaps t nodes bounded within v node at =
     let w = each_at (IsNodeWithin t.most t.definitions (length t.lines)) nodes v node at within in
     few_atoms t.most bounded t.definitions (length t.lines) node.judgement w.judgement
 
-module _ (problem : Problem) (f : ProofFile) (moves : Derivation) (h : HasFound problem moves) (is_program : IsProgram problem.program) (same_version : f.version ≡ problem.version) (same_defs : f.defs ≡ problem.defs) (same_program : f.program ≡ problem.program)
-    (same_nodes : f.nodes ≡ nodes_made (theory_for problem) (nodes_in moves)) (same_reasons : reasons_of f ≡ reasons_in moves) where
-  graph_same : graph_of problem.defs.most problem.defs.list problem.program (nodes_made (theory_for problem) (nodes_in moves)) ≡ graph_of f.defs.most f.defs.list f.program f.nodes
+module _ (problem : Problem) (f : ProofFile) (moves : Derivation) (h : HasFound problem moves)
+    (is_program : IsProgram problem.program) (same_version : f.version ≡ problem.version)
+    (same_defs : f.defs ≡ problem.defs) (same_program : f.program ≡ problem.program)
+    (same_nodes : f.nodes ≡ nodes_made (theory_for problem) (nodes_in moves))
+    (same_reasons : reasons_of f ≡ reasons_in moves) where
+  graph_same : graph_of problem.defs.most problem.defs.list problem.program
+      (nodes_made (theory_for problem) (nodes_in moves)) ≡ graph_of f.defs.most f.defs.list f.program f.nodes
   graph_same = λ i. graph_of (sym same_defs i).most (sym same_defs i).list (sym same_program i) (sym same_nodes i)
 
   correct : IsCorrect f
@@ -108,7 +123,9 @@ module _ (problem : Problem) (f : ProofFile) (moves : Derivation) (h : HasFound 
   }
 
   small : HasSmallHeaps f.nodes
-  small = subst (λ ns. HasSmallHeaps ns) (sym same_nodes) (small_heaps (theory_for problem) (nodes_made (theory_for problem) (nodes_in moves)) (limit_bounded problem) h.proof.within)
+  small = subst (λ ns. HasSmallHeaps ns) (sym same_nodes)
+      (small_heaps (theory_for problem) (nodes_made (theory_for problem) (nodes_in moves)) (limit_bounded problem)
+      h.proof.within)
 
   pub is_proof : IsProofFor problem f
   is_proof = record {
@@ -123,18 +140,31 @@ module _ (problem : Problem) (f : ProofFile) (moves : Derivation) (h : HasFound 
     goal = h.proof.proves;
     correct = correct;
     states = subst (λ g. HasAtMost g state_limit) graph_same h.proof.states;
-    holds = root_holds f (program_commands f.program (subst IsProgram (sym same_program) is_program)) correct.nodes small correct.paths;
+    holds = root_holds f (program_commands f.program (subst IsProgram (sym same_program) is_program))
+        correct.nodes small correct.paths;
   }
 
 -- the search that new moves follow
-pub follows : (problem : Problem) (moves : Derivation) → moves.defs ≡ problem.defs → moves.program ≡ problem.program → moves.root ≡ problem.goal → IsItsSearch moves (search_for problem)
+pub follows : (problem : Problem) (moves : Derivation) → moves.defs ≡ problem.defs → moves.program ≡ problem.program
+    → moves.root ≡ problem.goal → IsItsSearch moves (search_for problem)
 follows problem moves d p g = λ i. search_system (theory (sym d i) (sym p i)) (sym g i)
 
-pub same_about : (problem : Problem) (moves : Derivation) → moves.defs ≡ problem.defs → moves.program ≡ problem.program → moves.root ≡ problem.goal → about moves ≡ (problem.defs, (problem.program, problem.goal))
+pub same_about : (problem : Problem) (moves : Derivation) → moves.defs ≡ problem.defs → moves.program ≡ problem.program
+    → moves.root ≡ problem.goal → about moves ≡ (problem.defs, (problem.program, problem.goal))
 same_about problem moves d p g = λ i. (d i, (p i, g i))
 
-pub within : (problem : Problem) → Each (IsDefinitionWithin problem.defs.most problem.defs.list) problem.defs.list → IsProgram problem.program → IsJudgementWithin problem.defs.most problem.defs.list (length problem.program) problem.goal → IsWithinLimits (theory_for problem) problem.goal
-within problem definitions program goal = record { some = limit_positive problem; most = limit_bounded problem; definitions = definitions; program = program; goal_within = goal }
+pub within : (problem : Problem) → Each (IsDefinitionWithin problem.defs.most problem.defs.list) problem.defs.list
+    → IsProgram problem.program → IsJudgementWithin problem.defs.most problem.defs.list (length problem.program)
+    problem.goal → IsWithinLimits (theory_for problem) problem.goal
+within problem definitions program goal = record {
+  some = limit_positive problem;
+  most = limit_bounded problem;
+  definitions = definitions;
+  program = program;
+  goal_within = goal;
+}
 
-pub same_reasons : (problem : Problem) (f : ProofFile) (moves : Derivation) → f.nodes ≡ nodes_made (theory_for problem) (nodes_in moves) → reasons_of f ≡ reasons_in moves
-same_reasons problem f moves e = ap (map (λ (n : FileNode). n.reason)) e ∙ reasons_made (theory_for problem) moves.made.items
+pub same_reasons : (problem : Problem) (f : ProofFile) (moves : Derivation)
+    → f.nodes ≡ nodes_made (theory_for problem) (nodes_in moves) → reasons_of f ≡ reasons_in moves
+same_reasons problem f moves e = ap (map (λ (n : FileNode). n.reason)) e
+    ∙ reasons_made (theory_for problem) moves.made.items

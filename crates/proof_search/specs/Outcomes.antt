@@ -1,8 +1,8 @@
 -- What the answers of the prover say.
 use Rattle.std.specs.Prelude.{◌≡◌, ℕ, List, map, Some, slice_get}
 use Rattle.heap_formula.specs.declared.proof_rules.Reason.{Reason}
-use Rattle.derivation_search.specs.System.{System, Outcome, IsFound, IsNotFound, HasTooManyDerivations, HasTooManyStates}
-use Rattle.derivation_search.specs.Firsts.{FirstFound}
+use Rattle.derivations.specs.System.{System, Outcome, IsFound, IsNotFound, HasTooManyDerivations, HasTooManyStates}
+use Rattle.derivations.specs.Firsts.{FirstFound}
 use Rattle.buchi_inclusion.specs.Answers.{HasAtMost}
 use Rattle.formula_reader.specs.declared.problem.Problem.{Problem}
 use Rattle.proof_file.specs.declared.file.ProofFile.{ProofFile}
@@ -11,10 +11,10 @@ use Rattle.proof_check.specs.Verdicts.{file_graph, state_limit, IsCorrect, RootH
 use Rattle.search_moves.specs.Settings.{theory}
 use Rattle.search_moves.specs.Trying.{Theory}
 use Rattle.heap_formula.specs.declared.judgements.Judgement.{Judgement}
-use Rattle.tableaux.specs.Tableau.{Tableau, replay}
-use Rattle.search_calculus.specs.Calculus.{MadeNode}
-use Rattle.search_calculus.specs.Search.{calculus_of, search_system}
-use Rattle.found_files.specs.Files.{nodes_made}
+use Rattle.derivations.specs.Tableau.{Tableau, replay}
+use Rattle.proof_search.specs.Calculus.{MadeNode}
+use Rattle.proof_search.specs.Search.{calculus_of, search_system}
+use Rattle.proof_search.specs.Files.{nodes_made}
 use Rattle.proof_search.specs.declared.prover.Proved.{Proved}
 use Rattle.proof_search.specs.declared.prover.Proved.TheVariants.{Found, NotFound, TooManyDerivations, TooManyStates}
 

@@ -5,8 +5,8 @@ use Rattle.heap_formula.specs.declared.proof_rules.Reason.TheVariants.{Step, Bac
 use Rattle.proof_file.specs.FileNodes.{FileNode}
 use Rattle.proof_graph.specs.declared.nodes.GraphPremise.{GraphPremise}
 use Rattle.proof_graph.specs.declared.nodes.GraphNode.{GraphNode}
-use Rattle.search_calculus.specs.Calculus.{MadeNode, judgement_of}
-use Rattle.search_calculus.specs.Graphs.{slots_filled}
+use Rattle.proof_search.specs.Calculus.{MadeNode, judgement_of}
+use Rattle.proof_search.specs.Graphs.{slots_filled}
 
 -- the numbers of the premises of a node with this reason; a link has none
 abbrev pub numbers_in : Reason → List GraphPremise → List ℕ
@@ -15,7 +15,11 @@ numbers_in (Back link) premises = []
 
 abbrev pub file_node_at : Option GraphNode → MadeNode → FileNode
 file_node_at None m = record { judgement = judgement_of m; reason = m.reason; premises = [] }
-file_node_at (Some node) m = record { judgement = judgement_of m; reason = m.reason; premises = numbers_in m.reason node.premises }
+file_node_at (Some node) m = record {
+  judgement = judgement_of m;
+  reason = m.reason;
+  premises = numbers_in m.reason node.premises;
+}
 
 -- the nodes made, from node k on, by the graph's slots
 abbrev pub file_nodes_from : List GraphNode → ℕ → List MadeNode → List FileNode

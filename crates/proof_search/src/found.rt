@@ -1,21 +1,21 @@
 // A derivation without open goals as a proof file.
 ghost use Rattle.std.specs.Prelude.{◌≡◌, ◌≤◌, ◌<◌, [], length, slice_get, IfOk};
-ghost use Rattle.search_calculus.specs.Graphs.{slots_filled};
-ghost use Rattle.found_files.specs.Found.{AreProof};
-ghost use Rattle.derivation_moves.specs.Derivations.{IsInOrder, theory_in, nodes_in, goals_in};
+ghost use Rattle.proof_search.specs.Graphs.{slots_filled};
+ghost use Rattle.proof_search.specs.Found.{AreProof};
+ghost use Rattle.proof_search.specs.Derivations.{IsInOrder, theory_in, nodes_in, goals_in};
 ghost use Rattle.proof_search.specs.Outcomes.{theory_for, nodes_for};
 ghost use Rattle.proof_search.specs.Results.{numbers_in, file_node_at, file_nodes_from};
 
-use cyc_memory::OutOfMemory;
-use derivation_moves::Derivation;
+use crate::moves::Derivation;
+use cyc_basics::memory::OutOfMemory;
+use derivations::tableaux::MadeNode;
 use formula_reader::Problem;
+use formula_reader::files::file_for;
 use heap_formula::{Judgement, Reason};
 use logics::Numbers;
-use problem_files::file_for;
 use proof_file::{FileNode, FileNodes, ProofFile};
 use proof_graph::{Graph, PremiseView};
 use std::alloc::Global;
-use tableaux::MadeNode;
 
 fn filled_slots(alloc: Global, premises: &[PremiseView<'_>]) -> Result<Vec<u32>, OutOfMemory>
     ensures { IfOk result (λ v. v.items ≡ slots_filled premises.now) }

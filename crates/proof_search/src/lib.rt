@@ -2,11 +2,14 @@
 //! deepening.
 #![tactic(auto)]
 
+pub mod calculus;
+pub mod files;
 mod found;
+pub mod moves;
 mod offering;
 mod prover;
 
-pub use cyc_memory::OutOfMemory;
+pub use cyc_basics::memory::OutOfMemory;
 pub use offering::offers;
 pub use prover::{Proved, prove};
 pub use search_moves::Offers;

@@ -3,9 +3,9 @@ ghost use Rattle.std.specs.Prelude.{◌<◌, length, IfOk};
 ghost use Rattle.search_moves.specs.Offering.{OffersLinks, OffersRules};
 ghost use Rattle.proof_search.specs.Outcomes.{theory_for};
 
-use cyc_memory::OutOfMemory;
+use cyc_basics::memory::OutOfMemory;
 use formula_reader::Problem;
-use problem_files::problem_is_within;
+use formula_reader::files::problem_is_within;
 use proof_graph::Graph;
 use search_moves::Offers;
 use std::alloc::Global;

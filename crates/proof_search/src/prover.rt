@@ -1,15 +1,15 @@
 // The search, depth by depth.
 ghost use Rattle.std.specs.Prelude.{◌≡◌, ◌<◌, ◌≤◌, IfOk};
-ghost use Rattle.derivation_search.specs.System.{search_of};
+ghost use Rattle.derivations.specs.System.{search_of};
 ghost use Rattle.proof_search.specs.Outcomes.{search_for, outcome_of, IsFirst, IsProved};
 
 use crate::found::file_of;
+use crate::moves::Derivation;
 use bumpalo::Bump;
-use cyc_memory::OutOfMemory;
-use derivation_moves::Derivation;
-use derivation_search::{Stop, search_depth};
+use cyc_basics::memory::OutOfMemory;
+use derivations::search::{Stop, search_depth};
 use formula_reader::Problem;
-use problem_files::problem_is_within;
+use formula_reader::files::problem_is_within;
 use proof_file::ProofFile;
 use std::alloc::Global;
 

@@ -3,15 +3,20 @@ use Rattle.std.proofs.Common.{ℕ, true, false, List}
 use Rattle.std.specs.Prelude.{map}
 use Rattle.heap_syntax.specs.declared.keep.Keep.TheVariants.{Beyond}
 use Rattle.heap_syntax.proofs.FrontFits.{listed-fits, all-fit}
-use Rattle.pred_syntax.proofs.FrontFits.{heap-fits}
-use Rattle.proof_syntax.specs.Keeping.{heap_front, heaps_front, entailment_front, judgement_front, reason_front, node_front}
-use Rattle.proof_syntax.specs.Trees.{Heap, Entailment, Judgement, Entails, From, Reason, Absurd, Rewrite, Split, Distinct, Weaken, Unfold, Cut, Done, Choose, PureRight, Instantiate, Frame, UnfoldRight, Exec, Drop, Link, Node}
-use Rattle.proof_syntax.specs.Grammar.{terms, heap, or_word, by_word, some_heap, disjuncts, entailment, state, judgement, cut, parts, reason, node}
+use Rattle.heap_syntax.proofs.DefinitionFrontFits.{heap-fits}
+use Rattle.proof_syntax.specs.Keeping.{heap_front, heaps_front, entailment_front, judgement_front, reason_front}
+use Rattle.proof_syntax.specs.Keeping.{node_front}
+use Rattle.proof_syntax.specs.Trees.{Heap, Entailment, Judgement, Entails, From, Reason, Absurd, Rewrite, Split}
+use Rattle.proof_syntax.specs.Trees.{Distinct, Weaken, Unfold, Cut, Done, Choose, PureRight, Instantiate, Frame}
+use Rattle.proof_syntax.specs.Trees.{UnfoldRight, Exec, Drop, Link, Node}
+use Rattle.proof_syntax.specs.Grammar.{terms, heap, or_word, by_word, some_heap, disjuncts, entailment, state}
+use Rattle.proof_syntax.specs.Grammar.{judgement, cut, parts, reason, node}
 
 disjuncts-fit : (m : ℕ) (hs : List Heap) → disjuncts.fits hs → disjuncts.fits (heaps_front (Beyond m) hs)
 unfolding disjuncts
 disjuncts-fit m hs f =
-    listed-fits m some_heap or_word by_word (heap (terms false)) (map (heap_front (Beyond m)) hs) (all-fit (heap_front (Beyond m)) some_heap or_word by_word (heap (terms false)) (heap-fits false m) hs f)
+    listed-fits m some_heap or_word by_word (heap (terms false)) (map (heap_front (Beyond m)) hs)
+    (all-fit (heap_front (Beyond m)) some_heap or_word by_word (heap (terms false)) (heap-fits false m) hs f)
 
 entailment-fits : (m : ℕ) (e : Entailment) → entailment.fits e → entailment.fits (entailment_front (Beyond m) e)
 unfolding entailment

@@ -3,31 +3,46 @@ use Rattle.std.proofs.Common.{◌≡◌, ℕ, ◌<◌, true, false, List, [], �
 use Rattle.cyc_lex.specs.Word.{Word}
 use Rattle.cyc_grammar.specs.Syntax.{one, seq, after, before, headed, is_one, uncons, list1}
 use Rattle.cyc_grammar.specs.Classes.{the_end, number, find_text, keyword_of}
-use Rattle.cyc_grammar.proofs.Laws.{Lawful, Stops, Begins, BeginsNot, BeginsNot-append, ClassLaw, one-law, seq-law, shaped-law, alt-law, many-law, after-law, before-law, nothing-law, headed-law, list1-law, or_empty-law, uncons-cons, Stops-never}
+use Rattle.cyc_grammar.proofs.Laws.{Lawful, Stops, Begins, BeginsNot, BeginsNot-append, ClassLaw, one-law, seq-law}
+use Rattle.cyc_grammar.proofs.Laws.{shaped-law, alt-law, many-law, after-law, before-law, nothing-law, headed-law}
+use Rattle.cyc_grammar.proofs.Laws.{list1-law, or_empty-law, uncons-cons, Stops-never}
 use Rattle.cyc_grammar.proofs.ClassLaws.{symbol-law, keyword-law, the_end-law, number-law, keyword_of-law}
-use Rattle.pred_syntax.specs.declared.tree.TermTree.{TermTree}
-use Rattle.pred_syntax.specs.declared.tree.TermTree.TheVariants.{Nil, Univ, Exist}
-use Rattle.pred_syntax.proofs.DefinitionLaws.{uterm-law, uterm-closed, terms-all, spatial-lawful, heap-lawful, heap-stops, definitions-law, definitions-end}
+use Rattle.heap_syntax.specs.declared.definitions.tree.TermTree.{TermTree}
+use Rattle.heap_syntax.specs.declared.definitions.tree.TermTree.TheVariants.{Nil, Univ, Exist}
+use Rattle.heap_syntax.proofs.DefinitionLaws.{uterm-law, uterm-closed, terms-all, spatial-lawful, heap-lawful}
+use Rattle.heap_syntax.proofs.DefinitionLaws.{heap-stops, definitions-law, definitions-end}
 use Rattle.proof_syntax.specs.declared.tree.PairTree.{PairTree}
 use Rattle.proof_syntax.specs.declared.tree.SideTree.{SideTree}
 use Rattle.proof_syntax.specs.declared.tree.SideTree.TheVariants.{Left, Right}
 use Rattle.proof_syntax.specs.declared.reason_word.ReasonWord.{ReasonWord}
 use Rattle.proof_syntax.specs.declared.reason_word.ReasonWord.TheVariants as words
 use Rattle.proof_syntax.specs.ReasonWords.{reason_text, reason_words, side_text, sides}
-use Rattle.proof_syntax.specs.Trees.{Heap, Line, Definition, Entailment, Judgement, Entails, From, Reason, Absurd, Rewrite, Split, Distinct, Weaken, Unfold, Cut, Done, Choose, PureRight, Instantiate, Frame, UnfoldRight, Exec, Drop, Link, Node}
-use Rattle.proof_syntax.specs.Grammar.{Any, node_word, from_word, given_word, or_word, by_word, to_word, last_word, dollar, query, comma, semicolon, star, assign, turnstile, opening_brace, closing_brace, uterm, terms, terms_of, spatial, heap, some_heap, cons, IsSome, variable, lines, to_entailment, from_entailment, disjuncts, entailment, state, to_judgement, from_judgement, judgement, bracketed, two_numbers, side, rewrite, split, cut, instantiate, to_pair, from_pair, pair, some_pair, pairs1, pairs, to_link, from_link, link, Parts, parts, made_of, to_reason, from_reason, reason_word, reason, premises, to_node, from_node, node, some_node, definitions, more_nodes, nodes, to_file, from_file, version, contents, body, file}
+use Rattle.proof_syntax.specs.Trees.{Heap, Line, Definition, Entailment, Judgement, Entails, From, Reason, Absurd}
+use Rattle.proof_syntax.specs.Trees.{Rewrite, Split, Distinct, Weaken, Unfold, Cut, Done, Choose, PureRight}
+use Rattle.proof_syntax.specs.Trees.{Instantiate, Frame, UnfoldRight, Exec, Drop, Link, Node}
+use Rattle.proof_syntax.specs.Grammar.{Any, node_word, from_word, given_word, or_word, by_word, to_word, last_word}
+use Rattle.proof_syntax.specs.Grammar.{dollar, query, comma, semicolon, star, assign, turnstile, opening_brace}
+use Rattle.proof_syntax.specs.Grammar.{closing_brace, uterm, terms, terms_of, spatial, heap, some_heap, cons, IsSome}
+use Rattle.proof_syntax.specs.Grammar.{variable, lines, to_entailment, from_entailment, disjuncts, entailment, state}
+use Rattle.proof_syntax.specs.Grammar.{to_judgement, from_judgement, judgement, bracketed, two_numbers, side, rewrite}
+use Rattle.proof_syntax.specs.Grammar.{split, cut, instantiate, to_pair, from_pair, pair, some_pair, pairs1, pairs}
+use Rattle.proof_syntax.specs.Grammar.{to_link, from_link, link, Parts, parts, made_of, to_reason, from_reason}
+use Rattle.proof_syntax.specs.Grammar.{reason_word, reason, premises, to_node, from_node, node, some_node, definitions}
+use Rattle.proof_syntax.specs.Grammar.{more_nodes, nodes, to_file, from_file, version, contents, body, file}
 use Rattle.heap_syntax.specs.declared.version.Version.{Version}
 use Rattle.heap_syntax.proofs.WordTexts.{version-law}
-use Rattle.command_syntax.specs.Grammar as commands
-use Rattle.command_syntax.proofs.CommandLaws.{VariableLaw, lines-law, lines-end}
+use Rattle.heap_syntax.specs.LineGrammar as commands
+use Rattle.heap_syntax.proofs.CommandLaws.{VariableLaw, lines-law, lines-end}
 use Rattle.heap_syntax.proofs.HeapLaws.{closed-stops, list-end, listed-closed, heap-not, heaps-law}
-use Rattle.heap_syntax.proofs.NumberLaws.{bracketed-law, bracketed-closed, two_numbers-law, premises-law, premises-closed}
+use Rattle.heap_syntax.proofs.NumberLaws.{bracketed-law, bracketed-closed, two_numbers-law, premises-law}
+use Rattle.heap_syntax.proofs.NumberLaws.{premises-closed}
 
 -- ---- judgements
 
 disjuncts-law : Lawful disjuncts
 unfolding disjuncts
-disjuncts-law = heaps-law or_word by_word (terms_of (terms false)) (spatial (terms false)) (keyword-law _) (keyword-law _) refl refl refl (terms-all false) (spatial-lawful false)
+disjuncts-law = heaps-law or_word by_word (terms_of (terms false)) (spatial (terms false)) (keyword-law _)
+    (keyword-law _) refl refl refl (terms-all false) (spatial-lawful false)
 
 disjuncts-closed : (hs : List Heap) (d : Word) → disjuncts.more hs d ≡ false
 unfolding disjuncts
@@ -37,7 +52,8 @@ entailment-law : Lawful entailment
 unfolding entailment
 entailment-law =
     shaped-law {A = Heap × List Heap} to_entailment from_entailment Any _ (λ x f. (refl, tt)) (λ c h. refl)
-    (seq-law (heap (terms true)) (after turnstile disjuncts) (heap-lawful true) (after-law turnstile disjuncts (symbol-law _) disjuncts-law)
+    (seq-law (heap (terms true)) (after turnstile disjuncts) (heap-lawful true)
+    (after-law turnstile disjuncts (symbol-law _) disjuncts-law)
     (λ x y r fx fy h. heap-stops true (turnstile.word tt) refl x fx))
 
 entailment-closed : (x : Entailment) (d : Word) → entailment.more x d ≡ false
@@ -46,8 +62,10 @@ entailment-closed x d = disjuncts-closed x.disjuncts d
 
 state-law : Lawful state
 unfolding state
-state-law = after-law from_word _ (keyword-law _) (seq-law (one number) (after given_word (before (heap (terms true)) by_word)) (one-law number number-law)
-    (after-law given_word _ (keyword-law _) (before-law (heap (terms true)) by_word (keyword-law _) (heap-lawful true) (λ h f. heap-stops true (by_word.word tt) refl h f)))
+state-law = after-law from_word _ (keyword-law _) (seq-law (one number)
+    (after given_word (before (heap (terms true)) by_word)) (one-law number number-law)
+    (after-law given_word _ (keyword-law _) (before-law (heap (terms true)) by_word (keyword-law _) (heap-lawful true)
+    (λ h f. heap-stops true (by_word.word tt) refl h f)))
     (λ x y r fx fy h. Stops-never ((after given_word (before (heap (terms true)) by_word)).words y ++ r)))
 
 uterm-no-from : (x : TermTree) → (terms true).fits x → BeginsNot (is_one from_word) ((terms true).words x)
@@ -58,7 +76,8 @@ uterm-no-from (Exist n) f = refl
 
 no-from : (e : Entailment) → entailment.fits e → BeginsNot (is_one from_word) (entailment.words e)
 unfolding entailment
-no-from e f = BeginsNot-append (is_one from_word) _ _ (heap-not (terms_of (terms true)) (spatial (terms true)) (is_one from_word) refl uterm-no-from e.antecedent f.1.0)
+no-from e f = BeginsNot-append (is_one from_word) _ _
+    (heap-not (terms_of (terms true)) (spatial (terms true)) (is_one from_word) refl uterm-no-from e.antecedent f.1.0)
 
 judgement-law : Lawful judgement
 unfolding judgement state
@@ -91,25 +110,32 @@ side-law = one-law (keyword_of side_text sides) (keyword_of-law side_text sides 
 
 rewrite-law : Lawful rewrite
 unfolding rewrite
-rewrite-law = seq-law (one number) side (one-law number number-law) side-law (λ x y r fx fy h. Stops-never (side.words y ++ r))
+rewrite-law = seq-law (one number) side (one-law number number-law) side-law
+    (λ x y r fx fy h. Stops-never (side.words y ++ r))
 
 split-law : Lawful split
 unfolding split
-split-law = seq-law uterm uterm uterm-law uterm-law (λ x y r fx fy h. closed-stops uterm uterm-closed x fx (uterm.words y ++ r))
+split-law = seq-law uterm uterm uterm-law uterm-law
+    (λ x y r fx fy h. closed-stops uterm uterm-closed x fx (uterm.words y ++ r))
 
 cut-law : Lawful cut
 unfolding cut
-cut-law = seq-law bracketed (heap (terms false)) bracketed-law (heap-lawful false) (λ x y r fx fy h. closed-stops bracketed (λ x d f. bracketed-closed x d) x fx ((heap (terms false)).words y ++ r))
+cut-law = seq-law bracketed (heap (terms false)) bracketed-law (heap-lawful false)
+    (λ x y r fx fy h. closed-stops bracketed (λ x d f. bracketed-closed x d) x fx ((heap (terms false)).words y ++ r))
 
 instantiate-law : Lawful instantiate
 unfolding instantiate
-instantiate-law = after-law query _ (symbol-law _) (seq-law (one number) uterm (one-law number number-law) uterm-law (λ x y r fx fy h. Stops-never (uterm.words y ++ r)))
+instantiate-law = after-law query _ (symbol-law _)
+    (seq-law (one number) uterm (one-law number number-law) uterm-law
+    (λ x y r fx fy h. Stops-never (uterm.words y ++ r)))
 
 pair-law : Lawful pair
 unfolding pair
 pair-law =
     shaped-law {A = ℕ × TermTree} to_pair from_pair Any _ (λ x f. (refl, tt)) (λ c h. refl)
-    (after-law dollar _ (symbol-law _) (seq-law (one number) (after assign uterm) (one-law number number-law) (after-law assign uterm (symbol-law _) uterm-law) (λ x y r fx fy h. Stops-never ((after assign uterm).words y ++ r))))
+    (after-law dollar _ (symbol-law _) (seq-law (one number) (after assign uterm) (one-law number number-law)
+    (after-law assign uterm (symbol-law _) uterm-law) (λ x y r fx fy h.
+    Stops-never ((after assign uterm).words y ++ r))))
 
 pair-closed : (x : PairTree) (d : Word) → pair.fits x → pair.more x d ≡ false
 unfolding pair
@@ -117,7 +143,9 @@ pair-closed x d f = uterm-closed x.value d f.1.1
 
 pairs1-law : Lawful pairs1
 unfolding pairs1
-pairs1-law = before-law (list1 some_pair comma pair) closing_brace (symbol-law _) (list1-law some_pair comma pair (symbol-law _) pair-law pair-closed) (λ xs f. list-end comma pair pair-closed (closing_brace.word tt) refl ((uncons some_pair xs).1) f.1.1)
+pairs1-law = before-law (list1 some_pair comma pair) closing_brace (symbol-law _)
+    (list1-law some_pair comma pair (symbol-law _) pair-law pair-closed)
+    (λ xs f. list-end comma pair pair-closed (closing_brace.word tt) refl ((uncons some_pair xs).1) f.1.1)
 
 pairs1-some : (xs : List PairTree) → pairs1.fits xs → 0 < length xs
 unfolding pairs1
@@ -144,7 +172,8 @@ link-law =
     (seq-law (one number) (after opening_brace (seq pairs (seq bracketed bracketed))) (one-law number number-law)
     (after-law opening_brace _ (symbol-law _)
     (seq-law pairs (seq bracketed bracketed) pairs-law
-    (seq-law bracketed bracketed bracketed-law bracketed-law (λ x y r fx fy h. closed-stops bracketed (λ x d f. bracketed-closed x d) x fx (bracketed.words y ++ r)))
+    (seq-law bracketed bracketed bracketed-law bracketed-law
+    (λ x y r fx fy h. closed-stops bracketed (λ x d f. bracketed-closed x d) x fx (bracketed.words y ++ r)))
     (λ x y r fx fy h. closed-stops pairs (λ x d f. pairs-closed x d) x fx ((seq bracketed bracketed).words y ++ r))))
     (λ x y r fx fy h. Stops-never ((after opening_brace (seq pairs (seq bracketed bracketed))).words y ++ r)))
 
@@ -231,7 +260,8 @@ reason-here (Link l) = refl
 
 reason-law : Lawful reason
 unfolding reason
-reason-law = shaped-law {A = (w : ReasonWord) × Parts w} to_reason from_reason Any (headed reason_word parts) (λ x f. (reason-there x, tt)) (λ r h. reason-here r) (headed-law reason_word parts reason_word-law parts-law)
+reason-law = shaped-law {A = (w : ReasonWord) × Parts w} to_reason from_reason Any (headed reason_word parts)
+    (λ x f. (reason-there x, tt)) (λ r h. reason-here r) (headed-law reason_word parts reason_word-law parts-law)
 
 -- a reason goes on with a '*' alone
 reason-end : (d : Word) → is_one star d ≡ false → (r : Reason) → reason.fits r → reason.more r d ≡ false
@@ -255,7 +285,8 @@ reason-end d h (Link l) f = bracketed-closed l.disjuncts d
 
 -- ---- premises
 
-premises-apart : (r : Reason) (ns : List ℕ) (rest : List Word) → reason.fits r → Stops (reason.more r) (premises.words ns ++ rest)
+premises-apart : (r : Reason) (ns : List ℕ) (rest : List Word) → reason.fits r
+    → Stops (reason.more r) (premises.words ns ++ rest)
 unfolding premises
 premises-apart r [] rest f = reason-end (semicolon.word tt) refl r f
 premises-apart r (n ∷ ns) rest f = reason-end (to_word.word tt) refl r f
@@ -267,8 +298,10 @@ unfolding node
 node-law =
     shaped-law {A = Judgement × (Reason × List ℕ)} to_node from_node Any _ (λ x f. (refl, tt)) (λ n h. refl)
     (after-law node_word _ (keyword-law _)
-    (seq-law judgement (seq reason premises) judgement-law (seq-law reason premises reason-law premises-law (λ x y r fx fy h. premises-apart x y r fx))
-    (λ x y r fx fy h. closed-stops judgement (λ x d f. judgement-closed x d) x fx ((seq reason premises).words y ++ r))))
+    (seq-law judgement (seq reason premises) judgement-law
+    (seq-law reason premises reason-law premises-law (λ x y r fx fy h. premises-apart x y r fx))
+    (λ x y r fx fy h. closed-stops judgement (λ x d f. judgement-closed x d) x fx
+    ((seq reason premises).words y ++ r))))
 
 pub node-closed : (n : Node) (d : Word) → node.more n d ≡ false
 unfolding node
@@ -282,7 +315,8 @@ node-starts x = refl
 
 pub more_nodes-law : Lawful more_nodes
 unfolding more_nodes
-more_nodes-law = many-law (is_one node_word) node node-law (record { starts = λ x f. node-starts x; apart = λ x d f h. node-closed x d })
+more_nodes-law = many-law (is_one node_word) node node-law
+    (record { starts = λ x f. node-starts x; apart = λ x d f h. node-closed x d })
 
 pub more_nodes-close : (ns : List Node) → more_nodes.more ns (last_word.word tt) ≡ false
 unfolding more_nodes
@@ -293,8 +327,10 @@ more_nodes-close (x ∷ y ∷ ys) = more_nodes-close (y ∷ ys)
 pub nodes-law : Lawful nodes
 unfolding nodes
 nodes-law =
-    shaped-law {A = Node × List Node} cons (uncons some_node) IsSome _ (λ x f. (refl, omega arith)) (λ ns h. uncons-cons some_node ns h)
-    (seq-law node (before more_nodes last_word) node-law (before-law more_nodes last_word (keyword-law _) more_nodes-law (λ ns f. more_nodes-close ns))
+    shaped-law {A = Node × List Node} cons (uncons some_node) IsSome _ (λ x f. (refl, omega arith))
+    (λ ns h. uncons-cons some_node ns h)
+    (seq-law node (before more_nodes last_word) node-law
+    (before-law more_nodes last_word (keyword-law _) more_nodes-law (λ ns f. more_nodes-close ns))
     (λ x y r fx fy h. closed-stops node (λ x d f. node-closed x d) x fx ((before more_nodes last_word).words y ++ r)))
 
 pub nodes-closed : (ns : List Node) (d : Word) → nodes.more ns d ≡ false
@@ -317,11 +353,13 @@ dollar_variables = record {
   not_star = λ n f. refl;
 }
 
-pub lines-apart : (v : Version) (ls : List Line) (ns : List Node) (rest : List Word) → Stops ((lines v).more ls) ((before nodes semicolon).words ns ++ rest)
+pub lines-apart : (v : Version) (ls : List Line) (ns : List Node) (rest : List Word)
+    → Stops ((lines v).more ls) ((before nodes semicolon).words ns ++ rest)
 unfolding nodes node
 lines-apart v ls ns rest = lines-end v variable (node_word.word tt) refl ls
 
-definitions-apart : (v : Version) (ds : List Definition) (ls : List Line) (ns : List Node) (rest : List Word) → Stops (definitions.more ds) ((seq (lines v) (before nodes semicolon)).words (ls, ns) ++ rest)
+definitions-apart : (v : Version) (ds : List Definition) (ls : List Line) (ns : List Node) (rest : List Word)
+    → Stops (definitions.more ds) ((seq (lines v) (before nodes semicolon)).words (ls, ns) ++ rest)
 unfolding nodes node commands.lines commands.line
 definitions-apart v ds [] ns rest = definitions-end (node_word.word tt) refl ds
 definitions-apart v ds (l ∷ ls) ns rest = definitions-end (commands.line_word.word tt) refl ds
@@ -332,14 +370,18 @@ pub contents-law : (v : Version) → Lawful (contents v)
 contents-law v =
     after-law semicolon _ (symbol-law _)
     (seq-law definitions (seq (lines v) (before nodes semicolon)) definitions-law
-    (seq-law (lines v) (before nodes semicolon) (lines-law v variable dollar_variables) (before-law nodes semicolon (symbol-law _) nodes-law (λ ns f. nodes-closed ns (semicolon.word tt))) (λ ls ns r fls fns h. lines-apart v ls ns r))
+    (seq-law (lines v) (before nodes semicolon) (lines-law v variable dollar_variables)
+    (before-law nodes semicolon (symbol-law _) nodes-law (λ ns f. nodes-closed ns (semicolon.word tt)))
+    (λ ls ns r fls fns h. lines-apart v ls ns r))
     (λ ds p r fx fy h. definitions-apart v ds p.0 p.1 r))
 
 body-law : Lawful body
 unfolding body
 body-law =
-    shaped-law {A = (v : Version) × (List Definition × (List Line × List Node))} to_file from_file Any _ (λ x f. (refl, tt)) (λ n h. refl)
-    (after-law _ _ (keyword-law _) (after-law _ _ (keyword-law _) (headed-law version contents version-law contents-law)))
+    shaped-law {A = (v : Version) × (List Definition × (List Line × List Node))} to_file from_file Any _
+    (λ x f. (refl, tt)) (λ n h. refl)
+    (after-law _ _ (keyword-law _) (after-law _ _ (keyword-law _)
+    (headed-law version contents version-law contents-law)))
 
 pub file-law : Lawful file
 unfolding file body

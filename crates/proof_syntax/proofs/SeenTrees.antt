@@ -1,13 +1,14 @@
 -- A line is seen as it is.
 use Rattle.std.proofs.Common.{◌≡◌, ℕ, List, [], ◌∷◌, refl, ap}
 use Rattle.std.specs.Prelude.{map}
-use Rattle.command_syntax.specs.declared.tree.OperandTree.{OperandTree}
-use Rattle.command_syntax.specs.declared.tree.OperandTree.TheVariants.{Nil, Variable}
-use Rattle.command_syntax.specs.declared.tree.ChangeTree.{ChangeTree}
-use Rattle.command_syntax.specs.declared.tree.ChangeTree.TheVariants.{New, Assign, Load, Store}
-use Rattle.command_syntax.specs.declared.tree.CommandTree.{CommandTree}
-use Rattle.command_syntax.specs.declared.tree.CommandTree.TheVariants.{Stop, Goto, Free, IfAny, If, StoreAtNil, Change}
-use Rattle.command_syntax.specs.Trees.{operand_of, change_of, command_of, line_of}
+use Rattle.heap_syntax.specs.declared.lines.tree.OperandTree.{OperandTree}
+use Rattle.heap_syntax.specs.declared.lines.tree.OperandTree.TheVariants.{Nil, Variable}
+use Rattle.heap_syntax.specs.declared.lines.tree.ChangeTree.{ChangeTree}
+use Rattle.heap_syntax.specs.declared.lines.tree.ChangeTree.TheVariants.{New, Assign, Load, Store}
+use Rattle.heap_syntax.specs.declared.lines.tree.CommandTree.{CommandTree}
+use Rattle.heap_syntax.specs.declared.lines.tree.CommandTree.TheVariants.{Stop, Goto, Free, IfAny, If, StoreAtNil}
+use Rattle.heap_syntax.specs.declared.lines.tree.CommandTree.TheVariants.{Change}
+use Rattle.heap_syntax.specs.LineTrees.{operand_of, change_of, command_of, line_of}
 use Rattle.proof_syntax.specs.Trees.{Line}
 
 abbrev pub number_itself : ℕ → ℕ

@@ -2,26 +2,37 @@
 use Rattle.std.specs.Prelude.{ℕ, true, false, List, [], ◌∷◌, ◌⊎◌, codes, Ok}
 use Rattle.std.proofs.Common.{inl, inr}
 use Rattle.cyc_lex.specs.Word.{Word}
-use Rattle.cyc_grammar.specs.Syntax.{Reading, ◌>>=◌, Syntax, Class, one, seq, alt, many, shaped, after, before, headed, nothing, is_one, uncons, list1, or_empty}
+use Rattle.cyc_grammar.specs.Syntax.{Reading, ◌>>=◌, Syntax, Class, one, seq, alt, many, shaped, after, before, headed}
+use Rattle.cyc_grammar.specs.Syntax.{nothing, is_one, uncons, list1, or_empty}
 use Rattle.cyc_grammar.specs.Classes.{keyword, the_end, number, keyword_of}
 unfoldable pub use Rattle.heap_syntax.specs.Numbers.{numbers, bracketed, two_numbers, premises}
-pub use Rattle.heap_syntax.specs.Words.{nil, true_word, emp, pred_word, or_word, last_word, cyclist_word, node_word, from_word, given_word, by_word, to_word, equal, unequal, comma, colon, semicolon, star, bar, arrow, assign, turnstile, opening, closing, opening_brace, closing_brace, opening_bracket, closing_bracket, dollar, query, reserved, free_name}
+pub use Rattle.heap_syntax.specs.Words.{nil, true_word, emp, pred_word, or_word, last_word, cyclist_word, node_word}
+pub use Rattle.heap_syntax.specs.Words.{from_word, given_word, by_word, to_word, equal, unequal, comma, colon}
+pub use Rattle.heap_syntax.specs.Words.{semicolon, star, bar, arrow, assign, turnstile, opening, closing, opening_brace}
+pub use Rattle.heap_syntax.specs.Words.{closing_brace, opening_bracket, closing_bracket, dollar, query, reserved}
+pub use Rattle.heap_syntax.specs.Words.{free_name}
 pub use Rattle.heap_syntax.specs.Versions.{version}
 pub use Rattle.heap_syntax.specs.Grammar.{Any, cons, IsSome, some_heap}
 unfoldable pub use Rattle.heap_syntax.specs.Grammar.{sign, pure}
-pub use Rattle.pred_syntax.specs.Grammar.{to_term, from_term, to_uterm, from_uterm, IsUniversal, terms_of, some_pure, pures1, pures, fields, arguments, spatial, some_spatial, spatials, heap, kept_heap, heaps, kept_heaps, to_definition, from_definition}
-unfoldable pub use Rattle.pred_syntax.specs.Grammar.{term, uterm, terms, cases, definition, kept_definition, definitions}
-use Rattle.command_syntax.specs.Grammar as commands
+pub use Rattle.heap_syntax.specs.DefinitionGrammar.{to_term, from_term, to_uterm, from_uterm, IsUniversal, terms_of}
+pub use Rattle.heap_syntax.specs.DefinitionGrammar.{some_pure, pures1, pures, fields, arguments, spatial, some_spatial}
+pub use Rattle.heap_syntax.specs.DefinitionGrammar.{spatials, heap, kept_heap, heaps, kept_heaps, to_definition}
+pub use Rattle.heap_syntax.specs.DefinitionGrammar.{from_definition}
+unfoldable pub use Rattle.heap_syntax.specs.DefinitionGrammar.{term, uterm, terms, cases, definition, kept_definition}
+unfoldable pub use Rattle.heap_syntax.specs.DefinitionGrammar.{definitions}
+use Rattle.heap_syntax.specs.LineGrammar as commands
 use Rattle.heap_syntax.specs.declared.keep.Keep.{Keep}
 use Rattle.heap_syntax.specs.declared.version.Version.{Version}
-use Rattle.pred_syntax.specs.declared.tree.TermTree.{TermTree}
-use Rattle.pred_syntax.specs.declared.tree.TermTree.TheVariants.{Nil}
+use Rattle.heap_syntax.specs.declared.definitions.tree.TermTree.{TermTree}
+use Rattle.heap_syntax.specs.declared.definitions.tree.TermTree.TheVariants.{Nil}
 use Rattle.proof_syntax.specs.declared.tree.SideTree.{SideTree}
 use Rattle.proof_syntax.specs.declared.tree.PairTree.{PairTree}
 use Rattle.proof_syntax.specs.declared.reason_word.ReasonWord.{ReasonWord}
 use Rattle.proof_syntax.specs.declared.reason_word.ReasonWord.TheVariants as words
 use Rattle.proof_syntax.specs.ReasonWords.{reason_text, reason_words, side_text, sides}
-use Rattle.proof_syntax.specs.Trees.{Heap, Line, Definition, Entailment, Judgement, Entails, From, LinkData, Reason, Absurd, Rewrite, Split, Distinct, Weaken, Unfold, Cut, Done, Choose, PureRight, Instantiate, Frame, UnfoldRight, Exec, Drop, Link, Node, File}
+use Rattle.proof_syntax.specs.Trees.{Heap, Line, Definition, Entailment, Judgement, Entails, From, LinkData, Reason}
+use Rattle.proof_syntax.specs.Trees.{Absurd, Rewrite, Split, Distinct, Weaken, Unfold, Cut, Done, Choose, PureRight}
+use Rattle.proof_syntax.specs.Trees.{Instantiate, Frame, UnfoldRight, Exec, Drop, Link, Node, File}
 
 -- ---- words
 
@@ -51,7 +62,8 @@ unfoldable pub kept_disjuncts : Keep → Syntax (List Heap)
 kept_disjuncts k = kept_heaps k or_word by_word
 
 abbrev pub entailment_over : Syntax Heap → Syntax (List Heap) → Syntax Entailment
-entailment_over antecedent disjuncts = shaped {A = Heap × List Heap} to_entailment from_entailment Any (seq antecedent (after turnstile disjuncts))
+entailment_over antecedent disjuncts = shaped {A = Heap × List Heap} to_entailment from_entailment Any
+    (seq antecedent (after turnstile disjuncts))
 
 unfoldable pub entailment : Syntax Entailment
 entailment = entailment_over (heap (terms true)) disjuncts
@@ -78,7 +90,8 @@ from_judgement (From n h) = inl (n, h)
 from_judgement (Entails e) = inr e
 
 abbrev pub judgement_over : Syntax (ℕ × Heap) → Syntax Entailment → Syntax Judgement
-judgement_over state entailment = shaped {A = (ℕ × Heap) ⊎ Entailment} to_judgement from_judgement Any (alt (is_one from_word) state entailment)
+judgement_over state entailment = shaped {A = (ℕ × Heap) ⊎ Entailment} to_judgement from_judgement Any
+    (alt (is_one from_word) state entailment)
 
 unfoldable pub judgement : Syntax Judgement
 judgement = judgement_over state entailment
@@ -137,7 +150,8 @@ abbrev pub from_link : LinkData → ℕ × (List PairTree × (List ℕ × List �
 from_link l = (l.target, (l.substitution, (l.mapped, l.disjuncts)))
 
 unfoldable pub link : Syntax LinkData
-link = shaped {A = ℕ × (List PairTree × (List ℕ × List ℕ))} to_link from_link Any (seq (one number) (after opening_brace (seq pairs (seq bracketed bracketed))))
+link = shaped {A = ℕ × (List PairTree × (List ℕ × List ℕ))} to_link from_link Any
+    (seq (one number) (after opening_brace (seq pairs (seq bracketed bracketed))))
 
 -- ---- reason: a rule's word, and what this rule has after it
 
@@ -251,7 +265,8 @@ abbrev pub from_node : Node → Judgement × (Reason × List ℕ)
 from_node n = (n.judgement, (n.reason, n.premises))
 
 abbrev pub node_over : Syntax Judgement → Syntax Reason → Syntax Node
-node_over judgement reason = shaped {A = Judgement × (Reason × List ℕ)} to_node from_node Any (after node_word (seq judgement (seq reason premises)))
+node_over judgement reason = shaped {A = Judgement × (Reason × List ℕ)} to_node from_node Any
+    (after node_word (seq judgement (seq reason premises)))
 
 unfoldable pub node : Syntax Node
 node = node_over judgement reason
@@ -262,7 +277,11 @@ kept_node k = node_over (kept_judgement k) (kept_reason k)
 -- ---- file = "cyclist" "proof" ( "1" | "2" ) ";" { pred } { line } node { node } "end" ";", and the end of the text
 
 abbrev pub some_node : Node
-some_node = record { judgement = Entails (record { antecedent = some_heap; disjuncts = some_heap ∷ [] }); reason = Done; premises = [] }
+some_node = record {
+  judgement = Entails (record { antecedent = some_heap; disjuncts = some_heap ∷ [] });
+  reason = Done;
+  premises = [];
+}
 
 unfoldable pub more_nodes : Syntax (List Node)
 more_nodes = many (is_one node_word) node
@@ -282,7 +301,8 @@ abbrev pub contents : Version → Syntax (List Definition × (List Line × List 
 contents v = after semicolon (seq definitions (seq (lines v) (before nodes semicolon)))
 
 unfoldable pub body : Syntax File
-body = shaped {A = (v : Version) × (List Definition × (List Line × List Node))} to_file from_file Any (after cyclist_word (after proof_word (headed version contents)))
+body = shaped {A = (v : Version) × (List Definition × (List Line × List Node))} to_file from_file Any
+    (after cyclist_word (after proof_word (headed version contents)))
 
 unfoldable pub file : Syntax File
 file = before body the_end

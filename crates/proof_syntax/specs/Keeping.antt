@@ -1,7 +1,9 @@
 -- What is kept of nodes as they are read.
-pub use Rattle.pred_syntax.specs.Keeping.{heap_front, heaps_front, definition_front}
+pub use Rattle.heap_syntax.specs.DefinitionKeeping.{heap_front, heaps_front, definition_front}
 use Rattle.heap_syntax.specs.declared.keep.Keep.{Keep}
-use Rattle.proof_syntax.specs.Trees.{Entailment, Judgement, Entails, From, Reason, Absurd, Rewrite, Split, Distinct, Weaken, Unfold, Cut, Done, Choose, PureRight, Instantiate, Frame, UnfoldRight, Exec, Drop, Link, Node}
+use Rattle.proof_syntax.specs.Trees.{Entailment, Judgement, Entails, From, Reason, Absurd, Rewrite, Split, Distinct}
+use Rattle.proof_syntax.specs.Trees.{Weaken, Unfold, Cut, Done, Choose, PureRight, Instantiate, Frame, UnfoldRight}
+use Rattle.proof_syntax.specs.Trees.{Exec, Drop, Link, Node}
 
 abbrev pub entailment_front : Keep → Entailment → Entailment
 entailment_front k e = record { antecedent = heap_front k e.antecedent; disjuncts = heaps_front k e.disjuncts }
@@ -29,4 +31,8 @@ reason_front k (Drop i) = Drop i
 reason_front k (Link l) = Link l
 
 abbrev pub node_front : Keep → Node → Node
-node_front k n = record { judgement = judgement_front k n.judgement; reason = reason_front k n.reason; premises = n.premises }
+node_front k n = record {
+  judgement = judgement_front k n.judgement;
+  reason = reason_front k n.reason;
+  premises = n.premises;
+}

@@ -3,7 +3,10 @@ use Rattle.std.specs.Prelude.{ℕ, List, [], ◌∷◌, codes}
 use Rattle.proof_syntax.specs.declared.tree.SideTree.{SideTree}
 use Rattle.proof_syntax.specs.declared.tree.SideTree.TheVariants.{Left, Right}
 use Rattle.proof_syntax.specs.declared.reason_word.ReasonWord.{ReasonWord}
-use Rattle.proof_syntax.specs.declared.reason_word.ReasonWord.TheVariants.{Absurd, Rewrite, Split, Distinct, Weaken, Unfold, Cut, Done, Choose, PureRight, Instantiate, Frame, UnfoldRight, Exec, Drop, Link}
+use Rattle.proof_syntax.specs.declared.reason_word.ReasonWord.TheVariants.{Absurd, Rewrite, Split, Distinct, Weaken}
+use Rattle.proof_syntax.specs.declared.reason_word.ReasonWord.TheVariants.{Unfold, Cut, Done, Choose, PureRight}
+use Rattle.proof_syntax.specs.declared.reason_word.ReasonWord.TheVariants.{Instantiate, Frame, UnfoldRight, Exec, Drop}
+use Rattle.proof_syntax.specs.declared.reason_word.ReasonWord.TheVariants.{Link}
 
 -- the text of a rule's word
 abbrev pub reason_text : ReasonWord → List ℕ
@@ -26,7 +29,8 @@ reason_text Link = codes "Link"
 
 -- all of them
 abbrev pub reason_words : List ReasonWord
-reason_words = Absurd ∷ Rewrite ∷ Split ∷ Distinct ∷ Weaken ∷ Unfold ∷ Cut ∷ Done ∷ Choose ∷ PureRight ∷ Instantiate ∷ Frame ∷ UnfoldRight ∷ Exec ∷ Drop ∷ Link ∷ []
+reason_words = Absurd ∷ Rewrite ∷ Split ∷ Distinct ∷ Weaken ∷ Unfold ∷ Cut ∷ Done ∷ Choose ∷ PureRight ∷ Instantiate
+    ∷ Frame ∷ UnfoldRight ∷ Exec ∷ Drop ∷ Link ∷ []
 
 -- the text of a side
 abbrev pub side_text : SideTree → List ℕ

@@ -1,9 +1,10 @@
 -- Trees without where they lie in memory.
 use Rattle.std.specs.Prelude.{ℕ, List, map}
-use Rattle.pred_syntax.specs.declared.tree.TermTree.{TermTree}
-pub use Rattle.pred_syntax.specs.Trees.{Cell, Predicate, PureTree, Spatial, Heap, Definition, spatial_of, heap_of, definition_of}
+use Rattle.heap_syntax.specs.declared.definitions.tree.TermTree.{TermTree}
+pub use Rattle.heap_syntax.specs.DefinitionTrees.{Cell, Predicate, PureTree, Spatial, Heap, Definition, spatial_of}
+pub use Rattle.heap_syntax.specs.DefinitionTrees.{heap_of, definition_of}
 use Rattle.heap_syntax.specs.declared.version.Version.{Version}
-use Rattle.command_syntax.specs.declared.tree.LineTree.{LineTree}
+use Rattle.heap_syntax.specs.declared.lines.tree.LineTree.{LineTree}
 use Rattle.proof_syntax.specs.declared.tree.EntailmentTree.{EntailmentTree}
 use Rattle.proof_syntax.specs.declared.tree.JudgementTree.{JudgementTree}
 use Rattle.proof_syntax.specs.declared.tree.JudgementTree.TheVariants as judgements
@@ -72,7 +73,12 @@ judgement_of (judgements.Entailment e) = Entails (entailment_of e)
 judgement_of (judgements.From n h) = From n (heap_of h)
 
 abbrev pub link_of : LinkTree → LinkData
-link_of l = record { target = l.target; substitution = l.substitution.items; mapped = l.map.items; disjuncts = l.disjuncts.items }
+link_of l = record {
+  target = l.target;
+  substitution = l.substitution.items;
+  mapped = l.map.items;
+  disjuncts = l.disjuncts.items;
+}
 
 abbrev pub reason_of : ReasonTree → Reason
 reason_of reasons.Absurd = Absurd
@@ -96,4 +102,9 @@ abbrev pub node_of : NodeTree → Node
 node_of n = record { judgement = judgement_of n.judgement; reason = reason_of n.reason; premises = n.premises.items }
 
 abbrev pub file_of : FileTree → File
-file_of f = record { version = f.version; definitions = map definition_of f.definitions.items; lines = f.lines.items; nodes = map node_of f.nodes.items }
+file_of f = record {
+  version = f.version;
+  definitions = map definition_of f.definitions.items;
+  lines = f.lines.items;
+  nodes = map node_of f.nodes.items;
+}

@@ -1,9 +1,9 @@
 //! The program variables of proof files: reading and writing them.
 
-use command_syntax::{VariableForm, WrittenVariable};
+use cyc_basics::memory::OutOfMemory;
 use cyc_grammar::{Cursor, Refusal};
 use cyc_lex::WordWriter;
-use cyc_memory::OutOfMemory;
+use heap_syntax::lines::{VariableForm, WrittenVariable};
 
 /// Universal variables as program variables, by their numbers.
 #[derive(Clone, Copy)]

@@ -6,7 +6,9 @@ mod line_lists;
 mod read_files;
 mod read_reasons;
 mod reason_word;
+pub mod statements;
 mod tree;
+pub mod writing;
 
 pub use form::DollarVariables;
 pub use line_lists::line;

@@ -1,7 +1,7 @@
 //! Reading the lines of proof files.
 
 ghost use Rattle.cyc_grammar.specs.Giving.{Gives};
-ghost use Rattle.command_syntax.specs.Grammar as commands;
+ghost use Rattle.heap_syntax.specs.LineGrammar as commands;
 ghost use Rattle.proof_syntax.specs.Grammar.{lines, variable};
 
 use crate::form::DollarVariables;
@@ -14,7 +14,7 @@ use std::alloc::Global;
 pub fn line(version: Version, cursor: &mut Cursor<'_, '_>) -> Result<LineTree, Refusal>
     ensures { Gives (λ x. (x, cursor.new)) result ((commands.line version variable).read cursor.old) }
 {
-    command_syntax::line(&DollarVariables, version, cursor)
+    heap_syntax::lines::line(&DollarVariables, version, cursor)
 }
 
 /// Reads the lines of the program, of which there may be none.
@@ -25,5 +25,5 @@ pub fn lines(
 ) -> Result<Vec<LineTree>, Refusal>
     ensures { Gives (λ x. (x.items, cursor.new)) result ((lines version).read cursor.old) }
 {
-    command_syntax::lines(alloc, &DollarVariables, version, cursor)
+    heap_syntax::lines::lines(alloc, &DollarVariables, version, cursor)
 }

@@ -6,7 +6,8 @@ ghost use Rattle.cyc_grammar.specs.Syntax.{read_whole};
 ghost use Rattle.cyc_grammar.specs.Classes.{are_tokens};
 ghost use Rattle.cyc_grammar.specs.Faults.{Reads, IsRead};
 ghost use Rattle.cyc_grammar.specs.Giving.{Gives, with_front, words};
-ghost use Rattle.proof_syntax.specs.Grammar.{kept_disjuncts, definitions, kept_entailment, kept_state, kept_judgement, node, kept_node, more_nodes, nodes, body, file};
+ghost use Rattle.proof_syntax.specs.Grammar.{kept_disjuncts, definitions, kept_entailment, kept_state, kept_judgement};
+ghost use Rattle.proof_syntax.specs.Grammar.{node, kept_node, more_nodes, nodes, body, file};
 ghost use Rattle.proof_syntax.specs.Trees.{File, heap_of, entailment_of, judgement_of, node_of, file_of};
 
 use crate::line_lists::lines;
@@ -14,8 +15,8 @@ use crate::read_reasons::kept_reason;
 use crate::tree::{EntailmentTree, FileTree, HeapTree, JudgementTree, NodeTree};
 use cyc_grammar::{Cursor, Refusal, read_fault};
 use cyc_lex::{ReadFault, Token, Tokens};
+use heap_syntax::definitions::{definitions, kept_heap, kept_heaps};
 use heap_syntax::{Keep, Mark, premises, read_version};
-use pred_syntax::{definitions, kept_heap, kept_heaps};
 use std::alloc::Global;
 
 #[tactic(auto, unfolding(crate::specs::Grammar::kept_disjuncts))]

@@ -3,14 +3,15 @@
 ghost use Rattle.std.specs.Prelude.{Ok, map};
 ghost use Rattle.cyc_grammar.specs.Syntax.{many, after, is_one, read_class};
 ghost use Rattle.cyc_grammar.specs.Giving.{Gives, with_front};
-ghost use Rattle.proof_syntax.specs.Grammar.{comma, side, rewrite, split, kept_cut, instantiate, pair, pairs1, pairs, link, kept_parts, reason_word, kept_reason, kept_parts_read};
+ghost use Rattle.proof_syntax.specs.Grammar.{comma, side, rewrite, split, kept_cut, instantiate, pair, pairs1, pairs};
+ghost use Rattle.proof_syntax.specs.Grammar.{link, kept_parts, reason_word, kept_reason, kept_parts_read};
 ghost use Rattle.proof_syntax.specs.Trees.{heap_of, link_of, reason_of};
 
 use crate::reason_word::{ReasonWord, side_from_text};
 use crate::tree::{HeapTree, LinkTree, PairTree, ReasonTree, SideTree, TermTree};
 use cyc_grammar::{Cursor, Refusal};
+use heap_syntax::definitions::{kept_heap, universal_term};
 use heap_syntax::{Keep, bracketed, two_numbers};
-use pred_syntax::{kept_heap, universal_term};
 use std::alloc::Global;
 
 #[tactic(auto, unfolding(crate::specs::Grammar::side))]

@@ -1,10 +1,10 @@
 //! Trees of proof files: what a text of the grammar says, with lists of any length and numbers of at most nine digits.
 
 use heap_syntax::Version;
-pub use pred_syntax::{DefinitionTree, HeapTree, PureTree, SpatialTree, TermTree};
+pub use heap_syntax::definitions::{DefinitionTree, HeapTree, PureTree, SpatialTree, TermTree};
 
 /// A line of the program; a program variable is the number after its `$`.
-pub type LineTree = command_syntax::LineTree<u32>;
+pub type LineTree = heap_syntax::lines::LineTree<u32>;
 
 /// An entailment; the antecedent has universal variables alone, and there is at least one disjunct.
 #[derive(Drop)]

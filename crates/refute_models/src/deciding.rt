@@ -1,9 +1,9 @@
-// Whether a formula holds in a model, under the least meaning of any definitions: for each predicate with values the sets of cells
-// of which it holds, as a least fixed point over the questions that come up.
+// Whether a formula holds in a model, under the least meaning of any definitions: for each predicate with values the
+// sets of cells of which it holds, as a least fixed point over the questions that come up.
 use crate::cell_sets::CellSet;
 use crate::parts::{Part, keep_part};
 use crate::solving::{Asked, Next, Way};
-use cyc_memory::OutOfMemory;
+use cyc_basics::memory::OutOfMemory;
 use heap_formula::Heap;
 use indexmap::IndexSet;
 use pred_defs::Defs;
@@ -14,7 +14,8 @@ use std::collections::BTreeSet;
 /// The most parts that are kept of a question.
 const MOST_PARTS: usize = 3_000;
 
-/// Whether a formula holds: with the pairs of values that its derivation needs to differ; not; or the work was not done.
+/// Whether a formula holds: with the pairs of values that its derivation needs to differ; not; or the work was not
+/// done.
 #[derive(Drop)]
 pub enum Decision {
     Holds(Vec<(u64, u64)>),

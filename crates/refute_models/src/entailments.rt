@@ -2,7 +2,7 @@
 use crate::deciding::{Decider, Decision};
 use crate::inquiries::{Inquiry, Look, Verdict};
 use crate::searching::Search;
-use cyc_memory::OutOfMemory;
+use cyc_basics::memory::OutOfMemory;
 use heap_formula::{Heap, bound_of_heap};
 use pred_defs::Defs;
 use refute_unfoldings::Model;
@@ -57,8 +57,8 @@ impl Inquiry for Succedent<'_> {
     }
 }
 
-/// Searches in so many rounds for a stack and a heap that satisfy the antecedent and none of the disjuncts. Each round does twice the
-/// work of the one before it.
+/// Searches in so many rounds for a stack and a heap that satisfy the antecedent and none of the disjuncts. Each round
+/// does twice the work of the one before it.
 pub fn counter_model(
     alloc: Global,
     defs: &Defs,

@@ -1,5 +1,5 @@
 // From where the unfoldings of a formula begin.
-use cyc_memory::OutOfMemory;
+use cyc_basics::memory::OutOfMemory;
 use heap_formula::Heap;
 use refute_unfoldings::{OpenAtom, Unfolding};
 use std::alloc::Global;

@@ -1,9 +1,9 @@
 // What is asked of a model.
-use cyc_memory::OutOfMemory;
+use cyc_basics::memory::OutOfMemory;
 use refute_unfoldings::Model;
 
-/// What is known of a model: it is one that is sought; it is not, and less general ones may be where these pairs of values are one
-/// value each.
+/// What is known of a model: it is one that is sought; it is not, and less general ones may be where these pairs of
+/// values are one value each.
 #[derive(Drop)]
 pub enum Verdict {
     Sought,

@@ -1,6 +1,6 @@
-//! A free search for counter-models of entailments: models of symbolic unfoldings of the antecedent are looked at one by one. Where a
-//! disjunct holds, the model is made less general by a pair of values that the disjunct's derivation needs to differ. Nothing is
-//! promised of what is found.
+//! A free search for counter-models of entailments: models of symbolic unfoldings of the antecedent are looked at one
+//! by one. Where a disjunct holds, the model is made less general by a pair of values that the disjunct's derivation
+//! needs to differ. Nothing is promised of what is found.
 #![tactic(auto)]
 
 mod cell_sets;
@@ -13,7 +13,7 @@ mod parts;
 mod searching;
 mod solving;
 
-pub use cyc_memory::OutOfMemory;
+pub use cyc_basics::memory::OutOfMemory;
 pub use entailments::counter_model;
 pub use inquiries::{Inquiry, Look, Verdict, doubled};
 pub use refute_unfoldings::{Cell, Model};

@@ -1,10 +1,10 @@
 // The models of one unfolding, the most general first.
-use cyc_memory::OutOfMemory;
+use cyc_basics::memory::OutOfMemory;
 use refute_unfoldings::{Model, Unfolding};
 use std::alloc::Global;
 
-/// An unfolding, and those that come of it when values are made equal, breadth first and each once. The ones before `next` were
-/// looked at.
+/// An unfolding, and those that come of it when values are made equal, breadth first and each once. The ones before
+/// `next` were looked at.
 #[derive(Drop)]
 pub struct Merging {
     alloc: Global,

@@ -1,8 +1,9 @@
 // In which parts of a heap a question holds.
 use crate::cell_sets::CellSet;
-use cyc_memory::OutOfMemory;
+use cyc_basics::memory::OutOfMemory;
 
-/// A set of cells of which something holds, and the pairs of values, in ascending order, that its derivation needs to differ.
+/// A set of cells of which something holds, and the pairs of values, in ascending order, that its derivation needs to
+/// differ.
 #[derive(Clone, Drop)]
 pub struct Part {
     pub cells: CellSet,

@@ -2,7 +2,7 @@
 use crate::goals::Start;
 use crate::inquiries::{Inquiry, Verdict, doubled};
 use crate::merging::Merging;
-use cyc_memory::OutOfMemory;
+use cyc_basics::memory::OutOfMemory;
 use heap_formula::Heap;
 use pred_defs::Defs;
 use refute_unfoldings::{Choices, Derivations, Model, Sizes, Unfolder, Unfolding};
@@ -32,8 +32,8 @@ pub struct Search<'a, I: Inquiry> {
     pub inquiry: &'a I,
 }
 
-/// What comes of a stretch of the search: a model that is sought, or whether all was gone through that belongs to it; and how much
-/// work it was.
+/// What comes of a stretch of the search: a model that is sought, or whether all was gone through that belongs to it;
+/// and how much work it was.
 #[derive(Drop)]
 struct Stretch {
     found: Option<Model>,

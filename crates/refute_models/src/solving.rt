@@ -1,7 +1,7 @@
 // The ways in which a formula holds in parts of a model, as far as its own atoms go.
 use crate::cell_sets::CellSet;
 use crate::parts::{Part, add_pairs};
-use cyc_memory::OutOfMemory;
+use cyc_basics::memory::OutOfMemory;
 use heap_formula::{Args, Heap, Pure, Spatial, Term, exists_in_heap};
 use refute_unfoldings::{Model, PredicateUse};
 use std::alloc::{AllocError, Global};
@@ -9,7 +9,8 @@ use std::alloc::{AllocError, Global};
 /// How often equations and cells are followed: more than a formula has atoms.
 const MOST_TURNS: u32 = 200;
 
-/// A formula that is asked: in the cells of a model, with these values of its universal variables; of these cells alone, or of any.
+/// A formula that is asked: in the cells of a model, with these values of its universal variables; of these cells
+/// alone, or of any.
 #[derive(Clone, Copy)]
 pub struct Asked<'a> {
     pub model: &'a Model,
@@ -18,8 +19,8 @@ pub struct Asked<'a> {
     pub wanted: Option<CellSet>,
 }
 
-/// A way on which the formula may hold: the values of its locals as far as they are known, the atoms that are left, the cells and
-/// pairs that the others took, and a number above all values that are in use.
+/// A way on which the formula may hold: the values of its locals as far as they are known, the atoms that are left, the
+/// cells and pairs that the others took, and a number above all values that are in use.
 #[derive(Drop)]
 pub struct Way {
     locals: Vec<Option<u64>>,
@@ -50,8 +51,8 @@ enum Settling {
     Changed,
 }
 
-/// What is to be done next on a way: a predicate atom at a place has known arguments; a term is to take the values of cells, or
-/// each value below the bound and a new one, or a new one; or all is done.
+/// What is to be done next on a way: a predicate atom at a place has known arguments; a term is to take the values of
+/// cells, or each value below the bound and a new one, or a new one; or all is done.
 #[derive(Clone, Copy)]
 pub enum Next {
     Ask(usize, PredicateUse),

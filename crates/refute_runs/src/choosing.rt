@@ -1,12 +1,12 @@
 // What may be picked in a state.
-use cyc_memory::OutOfMemory;
+use cyc_basics::memory::OutOfMemory;
+use general_models::runs::{FieldValues, Pick};
 use goto_lang::Config;
 use heap_formula::Command;
-use refuting_runs::{FieldValues, Pick};
 use std::alloc::Global;
 
-/// What a step may take: a pick, if the command needs one; and how far it is from the usual pick, which is the least number that
-/// stands nowhere in the state, with nil in all fields.
+/// What a step may take: a pick, if the command needs one; and how far it is from the usual pick, which is the least
+/// number that stands nowhere in the state, with nil in all fields.
 #[derive(Drop)]
 pub struct Offer {
     pub pick: Option<Pick>,

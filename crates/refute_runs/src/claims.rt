@@ -2,7 +2,7 @@
 use crate::exploring::Exploration;
 use crate::faulty_runs::{FaultyRun, Tail};
 use crate::repeats::repeat;
-use cyc_memory::OutOfMemory;
+use cyc_basics::memory::OutOfMemory;
 use goto_lang::{Cells, Config, Program, Stack};
 use heap_formula::{Heap, bound_of_heap};
 use pred_defs::Defs;
@@ -51,7 +51,8 @@ impl<'a> Runs<'a> {
         })
     }
 
-    /// Runs from a model, with twice the states for each round of its age; and the rest of one that faults or comes back.
+    /// Runs from a model, with twice the states for each round of its age; and the rest of one that faults or comes
+    /// back.
     fn explore(
         &self,
         model: &Model,
@@ -103,8 +104,8 @@ impl Inquiry for Runs<'_> {
     }
 }
 
-/// Searches in so many rounds for a run from a state that satisfies the precondition, at this line, which faults or comes back to a
-/// state where it was. Each round does twice the work of the one before it.
+/// Searches in so many rounds for a run from a state that satisfies the precondition, at this line, which faults or
+/// comes back to a state where it was. Each round does twice the work of the one before it.
 pub fn faulty_run(
     alloc: Global,
     defs: &Defs,

@@ -1,11 +1,11 @@
 // The states that runs from one state reach.
 use crate::choosing::{Offer, offers};
 use crate::faulty_runs::{Tail, fields_of, made_picks, number_of};
-use cyc_memory::OutOfMemory;
+use cyc_basics::memory::OutOfMemory;
+use general_models::runs::{Ending, Pick};
 use goto_lang::{Config, Program, Stepped, step};
 use heap_formula::{Command, Term};
 use indexmap::IndexSet;
-use refuting_runs::{Ending, Pick};
 use std::alloc::Global;
 
 /// The headroom of all runs, and the greatest number in a state.
@@ -18,12 +18,13 @@ pub const MOST_COUNT: usize = 1_000_000_000;
 
 /// A step to the state with this number.
 #[derive(Drop)]
-pub struct Step {
+pub struct RunStep {
     pub target: usize,
     pub pick: Option<Pick>,
 }
 
-/// A state that was reached: by this pick from the state with this number, after so many steps. `steps` lead on from it.
+/// A state that was reached: by this pick from the state with this number, after so many steps. `steps` lead on from
+/// it.
 #[derive(Drop)]
 pub struct Visit {
     config: Config,
@@ -31,7 +32,7 @@ pub struct Visit {
     pick: Option<Pick>,
     pub depth: u32,
     deviations: u32,
-    pub steps: Vec<Step>,
+    pub steps: Vec<RunStep>,
 }
 
 /// States breadth first, each once, with their steps; the pairs of values that were compared and differ; and
@@ -169,7 +170,7 @@ impl<'a> Exploration<'a> {
         let Some(visit) = self.visits.get_mut(number) else {
             return Ok(());
         };
-        visit.steps.push(Step { target, pick })?;
+        visit.steps.push(RunStep { target, pick })?;
         let depth = visit.depth.saturating_add(1);
         if is_new {
             self.visits.push(Visit {

@@ -1,8 +1,8 @@
 // Runs that show that a program may fault or run for ever.
-use case_derivations::CaseStep;
-use cyc_memory::OutOfMemory;
+use cyc_basics::memory::OutOfMemory;
+use general_models::derivations::CaseStep;
+use general_models::runs::{Ending, Pick};
 use refute_unfoldings::Cell;
-use refuting_runs::{Ending, Pick};
 use std::alloc::Global;
 
 /// The number that a step takes for a pick.
@@ -21,8 +21,8 @@ pub fn fields_of(pick: &Pick) -> &[u64] {
     }
 }
 
-/// A run: the values of the program's variables and of the precondition's in its first state, the heap there, the derivation that
-/// these satisfy the precondition, and what was picked at each `new` and each `if *`, in order.
+/// A run: the values of the program's variables and of the precondition's in its first state, the heap there, the
+/// derivation that these satisfy the precondition, and what was picked at each `new` and each `if *`, in order.
 #[derive(Drop)]
 pub struct FaultyRun {
     pub stack: Vec<u64>,

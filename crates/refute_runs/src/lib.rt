@@ -1,6 +1,6 @@
-//! A free search for runs of a program that fault or come back to a state where they were before. They begin in models of symbolic
-//! unfoldings of the precondition, and are made less general by pairs of values that the program compares. Nothing is promised of
-//! what is found.
+//! A free search for runs of a program that fault or come back to a state where they were before. They begin in models
+//! of symbolic unfoldings of the precondition, and are made less general by pairs of values that the program compares.
+//! Nothing is promised of what is found.
 #![tactic(auto)]
 
 mod choosing;
@@ -10,5 +10,5 @@ mod faulty_runs;
 mod repeats;
 
 pub use claims::faulty_run;
-pub use cyc_memory::OutOfMemory;
+pub use cyc_basics::memory::OutOfMemory;
 pub use faulty_runs::FaultyRun;

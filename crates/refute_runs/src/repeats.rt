@@ -1,8 +1,8 @@
 // Runs that come back to a state.
 use crate::exploring::{Exploration, MOST_COUNT};
 use crate::faulty_runs::{Tail, made_picks};
-use cyc_memory::OutOfMemory;
-use refuting_runs::{Ending, Pick};
+use cyc_basics::memory::OutOfMemory;
+use general_models::runs::{Ending, Pick};
 use std::alloc::Global;
 
 /// Whether a run may go on for ever from each state, as far as is known.

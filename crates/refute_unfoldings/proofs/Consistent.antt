@@ -1,18 +1,21 @@
--- What is known stays without a contradiction where a pair, a cell or a variable comes in, and where two classes that nothing keeps
--- apart become one.
-use Rattle.std.proofs.Common.{◌≡◌, ℕ, zero, suc, ◌<◌, ◌≤◌, ◌+◌, ◌⊎◌, inl, inr, arith, List, [], ◌∷◌, ◌++◌, length, Option, Some, None, slice_get, set, length-append, length-set, sym, refl, ap, subst, ◌∙◌}
+-- What is known stays without a contradiction where a pair, a cell or a variable comes in, and where two classes that
+-- nothing keeps apart become one.
+use Rattle.std.proofs.Common.{◌≡◌, ℕ, zero, suc, ◌<◌, ◌≤◌, ◌+◌, ◌⊎◌, inl, inr, arith, List, [], ◌∷◌, ◌++◌, length}
+use Rattle.std.proofs.Common.{Option, Some, None, slice_get, set, length-append, length-set, sym, refl, ap, subst, ◌∙◌}
 use Rattle.std.proofs.lemmas.Option.{slice_get_within, slice_get_past, none-some}
 use Rattle.std.proofs.lemmas.Bool.{cases_Bool, cases_eq, cases_lt, true≢false}
-use Rattle.list_facts.proofs.Places.{get_append_left, get_end, get_within}
+use Rattle.cyc_basics.proofs.Places.{get_append_left, get_end, get_within}
 use Rattle.heap_formula.specs.contracts.terms.TermPartialEq.TheImpl.{eq-value as term_eq}
 use Rattle.heap_formula.proofs.Equal.{term_eq-Decides}
 use Rattle.heap_formula.specs.declared.terms.Term.{Term}
 use Rattle.heap_formula.specs.declared.terms.Term.TheVariants.{Nil, Univ, Exist}
 use Rattle.refute_unfoldings.specs.declared.unfolding.SymbolicCell.{SymbolicCell}
-use Rattle.refute_unfoldings.specs.Consistency.{Known, IsConsistent, AreReplaced, class_in, AreTwo, AreApart, HasCell, MustDiffer}
+use Rattle.refute_unfoldings.specs.Consistency.{Known, IsConsistent, AreReplaced, class_in, AreTwo, AreApart, HasCell}
+use Rattle.refute_unfoldings.specs.Consistency.{MustDiffer}
 
 -- what stands in a list with one more at its end
-pub at_end : {X : Type 0} (xs : List X) (x : X) (i : ℕ) (z : X) → slice_get (xs ++ x ∷ []) i ≡ Some z → (slice_get xs i ≡ Some z) ⊎ ((i ≡ length xs) × (z ≡ x))
+pub at_end : {X : Type 0} (xs : List X) (x : X) (i : ℕ) (z : X) → slice_get (xs ++ x ∷ []) i ≡ Some z
+    → (slice_get xs i ≡ Some z) ⊎ ((i ≡ length xs) × (z ≡ x))
 at_end [] x zero z h = inr (refl, cc)
 at_end [] x (suc i) z h = absurd (none-some z h)
 at_end (y ∷ xs) x zero z h = inl h
@@ -21,7 +24,8 @@ at_end (y ∷ xs) x (suc i) z h =
 
 -- ---- a pair that is to differ
 
-pub pair_added : (k : Known) (t u : Term) → IsConsistent k → AreTwo k.classes t u → IsConsistent (record { classes = k.classes; cells = k.cells; apart = k.apart ++ (t, u) ∷ [] })
+pub pair_added : (k : Known) (t u : Term) → IsConsistent k → AreTwo k.classes t u
+    → IsConsistent (record { classes = k.classes; cells = k.cells; apart = k.apart ++ (t, u) ∷ [] })
 pair_added k t u is two =
     record {
       apart = λ i pair at.
@@ -35,7 +39,8 @@ pair_added k t u is two =
 
 -- ---- a cell
 
-pub cell_added : (k : Known) (c : SymbolicCell) → IsConsistent k → AreTwo k.classes Nil c.address → (HasCell k (class_in k.classes c.address) → ⊥)
+pub cell_added : (k : Known) (c : SymbolicCell) → IsConsistent k → AreTwo k.classes Nil c.address
+    → (HasCell k (class_in k.classes c.address) → ⊥)
     → IsConsistent (record { classes = k.classes; cells = k.cells ++ c ∷ []; apart = k.apart })
 cell_added k c is placed free =
     record {
@@ -54,7 +59,13 @@ cell_added k c is placed free =
                 ]
             | inr b ↦
                 elim (at_end k.cells c i d at_i) [
-                  | inl a' ↦ λ same. free (i, d, a', subst (λ (x : SymbolicCell). class_in k.classes d.address ≡ class_in k.classes x.address) b.1 same)
+                  | inl a' ↦ λ same. free (
+                    i,
+                    d,
+                    a',
+                    subst (λ (x : SymbolicCell). class_in k.classes d.address
+                        ≡ class_in k.classes x.address) b.1 same,
+                  )
                   | inr b' ↦ absurd (omega arith)
                 ]
           ];
@@ -65,7 +76,8 @@ cell_added k c is placed free =
 abbrev entry : ℕ → Option Term → Term
 entry m o = elim o [ None ↦ Univ m | Some t ↦ t ]
 
-entry_grows : (classes : List Term) (n m : ℕ) → n ≡ length classes → (found : Option Term) → slice_get classes m ≡ found → entry m (slice_get (classes ++ Univ n ∷ []) m) ≡ entry m found
+entry_grows : (classes : List Term) (n m : ℕ) → n ≡ length classes → (found : Option Term) → slice_get classes m ≡ found
+    → entry m (slice_get (classes ++ Univ n ∷ []) m) ≡ entry m found
 entry_grows classes n m e (Some t) at = ap (entry m) (get_append_left classes (Univ n ∷ []) m t at)
 entry_grows classes n m e None at =
     elim (cases_lt m (length classes)) [
@@ -73,27 +85,36 @@ entry_grows classes n m e None at =
       | inr above ↦ at_or_past above (cases_lt (length classes) m)
     ]
   where
-    at_or_past : length classes ≤ m → ((length classes < m) ⊎ (m ≤ length classes)) → entry m (slice_get (classes ++ Univ n ∷ []) m) ≡ Univ m
-    at_or_past above (inl past) = (let none : slice_get (classes ++ Univ n ∷ []) m ≡ None = slice_get_past (classes ++ Univ n ∷ []) m (let longer = length-append classes (Univ n ∷ []) in omega arith) in ap (entry m) none)
+    at_or_past : length classes ≤ m → ((length classes < m) ⊎ (m ≤ length classes))
+        → entry m (slice_get (classes ++ Univ n ∷ []) m) ≡ Univ m
+    at_or_past above (inl past) = (let none : slice_get (classes ++ Univ n ∷ []) m
+        ≡ None = slice_get_past (classes ++ Univ n ∷ []) m (let longer = length-append classes (Univ n ∷ []) in
+        omega arith) in ap (entry m) none)
     at_or_past above (inr here) =
         (let same : m ≡ length classes = omega arith in
-        let found : slice_get (classes ++ Univ n ∷ []) m ≡ Some (Univ n) = subst (λ (i : ℕ). slice_get (classes ++ Univ n ∷ []) i ≡ Some (Univ n)) (sym same) (get_end classes (Univ n)) in
+        let found : slice_get (classes ++ Univ n ∷ []) m
+        ≡ Some (Univ n) = subst (λ (i : ℕ). slice_get (classes ++ Univ n ∷ []) i ≡ Some (Univ n)) (sym same)
+        (get_end classes (Univ n)) in
         ap (entry m) found ∙ ap Univ (e ∙ sym same))
 
-pub same_class : (classes : List Term) (n : ℕ) (t : Term) → n ≡ length classes → class_in (classes ++ Univ n ∷ []) t ≡ class_in classes t
+pub same_class : (classes : List Term) (n : ℕ) (t : Term) → n ≡ length classes
+    → class_in (classes ++ Univ n ∷ []) t ≡ class_in classes t
 same_class classes n Nil e = refl
 same_class classes n (Exist m) e = refl
 same_class classes n (Univ m) e = entry_grows classes n m e (slice_get classes m) refl
 
-two_grow : (classes : List Term) (n : ℕ) (t u : Term) → n ≡ length classes → AreTwo classes t u → AreTwo (classes ++ Univ n ∷ []) t u
+two_grow : (classes : List Term) (n : ℕ) (t u : Term) → n ≡ length classes → AreTwo classes t u
+    → AreTwo (classes ++ Univ n ∷ []) t u
 two_grow classes n t u e two = λ same. two (sym (same_class classes n t e) ∙ same ∙ same_class classes n u e)
 
-pub variable_added : (k : Known) (n : ℕ) → n ≡ length k.classes → IsConsistent k → IsConsistent (record { classes = k.classes ++ Univ n ∷ []; cells = k.cells; apart = k.apart })
+pub variable_added : (k : Known) (n : ℕ) → n ≡ length k.classes → IsConsistent k
+    → IsConsistent (record { classes = k.classes ++ Univ n ∷ []; cells = k.cells; apart = k.apart })
 variable_added k n e is =
     record {
       apart = λ i pair at. two_grow k.classes n pair.0 pair.1 e (is.apart i pair at);
       placed = λ i c at. two_grow k.classes n Nil c.address e (is.placed i c at);
-      distinct = λ i j c d below at_i at_j. two_grow k.classes n c.address d.address e (is.distinct i j c d below at_i at_j);
+      distinct = λ i j c d below at_i at_j. two_grow k.classes n c.address d.address e
+          (is.distinct i j c d below at_i at_j);
     }
 
 -- ---- two classes become one
@@ -118,35 +139,49 @@ IsNow gone kept c found = (c ≡ gone → found ≡ Some kept) × ((c ≡ gone �
 abbrev pub AreSoFar : Term → Term → List Term → List Term → ℕ → Type 0
 AreSoFar gone kept from to n =
     (length to ≡ length from)
-    × ((i : ℕ) (c : Term) → slice_get from i ≡ Some c → (n ≤ i → slice_get to i ≡ Some c) × (i < n → IsNow gone kept c (slice_get to i)))
+    × ((i : ℕ) (c : Term) → slice_get from i ≡ Some c
+    → (n ≤ i → slice_get to i ≡ Some c) × (i < n → IsNow gone kept c (slice_get to i)))
 
 some_is : (a b : Term) → Some a ≡ Some b → a ≡ b
 some_is a b e = cc
 
-pub one_replaced : (gone kept : Term) (from to : List Term) (n : ℕ) (x : Term) → AreSoFar gone kept from to n → slice_get to n ≡ Some x → x ≡ gone
+pub one_replaced : (gone kept : Term) (from to : List Term) (n : ℕ) (x : Term) → AreSoFar gone kept from to n
+    → slice_get to n ≡ Some x → x ≡ gone
     → AreSoFar gone kept from (set to n kept) (n + 1)
 one_replaced gone kept from to n x done at same = (length-set to n kept ∙ done.0, places)
   where
     within : n < length to
     within = slice_get_within to n x at
 
-    places : (i : ℕ) (c : Term) → slice_get from i ≡ Some c → (n + 1 ≤ i → slice_get (set to n kept) i ≡ Some c) × (i < n + 1 → IsNow gone kept c (slice_get (set to n kept) i))
+    places : (i : ℕ) (c : Term) → slice_get from i ≡ Some c
+        → (n + 1 ≤ i → slice_get (set to n kept) i ≡ Some c)
+        × (i < n + 1 → IsNow gone kept c (slice_get (set to n kept) i))
     places i c c_at =
         elim (cases_eq i n) [
           | inl here ↦
-              (let now : slice_get (set to n kept) i ≡ Some kept = subst (λ (k : ℕ). slice_get (set to n kept) k ≡ Some kept) (sym here) (set_same to n kept within) in
+              (let now : slice_get (set to n kept) i
+              ≡ Some kept = subst (λ (k : ℕ). slice_get (set to n kept) k ≡ Some kept) (sym here)
+              (set_same to n kept within) in
               let was : slice_get to i ≡ Some c = (done.1 i c c_at).0 (omega arith) in
               let is : c ≡ gone = some_is c x (sym was ∙ ap (slice_get to) here ∙ at) ∙ same in
               (λ past. absurd (omega arith), λ below. (λ e. now, λ other. absurd (other is))))
           | inr elsewhere ↦
-              (let kept_at = set_other to n i kept elsewhere in
-              (λ past. kept_at ∙ (done.1 i c c_at).0 (omega arith), λ below. (λ e. kept_at ∙ ((done.1 i c c_at).1 (omega arith)).0 e, λ other. kept_at ∙ ((done.1 i c c_at).1 (omega arith)).1 other)))
+              (let kept_at = set_other to n i kept elsewhere in (
+                λ past. kept_at ∙ (done.1 i c c_at).0 (omega arith),
+                λ below. (
+                  λ e. kept_at ∙ ((done.1 i c c_at).1 (omega arith)).0 e,
+                  λ other. kept_at
+                      ∙ ((done.1 i c c_at).1 (omega arith)).1 other,
+                ),
+              ))
         ]
 
-pub one_left : (gone kept : Term) (from to : List Term) (n : ℕ) (x : Term) → AreSoFar gone kept from to n → slice_get to n ≡ Some x → (x ≡ gone → ⊥) → AreSoFar gone kept from to (n + 1)
+pub one_left : (gone kept : Term) (from to : List Term) (n : ℕ) (x : Term) → AreSoFar gone kept from to n
+    → slice_get to n ≡ Some x → (x ≡ gone → ⊥) → AreSoFar gone kept from to (n + 1)
 one_left gone kept from to n x done at other = (done.0, places)
   where
-    places : (i : ℕ) (c : Term) → slice_get from i ≡ Some c → (n + 1 ≤ i → slice_get to i ≡ Some c) × (i < n + 1 → IsNow gone kept c (slice_get to i))
+    places : (i : ℕ) (c : Term) → slice_get from i ≡ Some c
+        → (n + 1 ≤ i → slice_get to i ≡ Some c) × (i < n + 1 → IsNow gone kept c (slice_get to i))
     places i c c_at =
         elim (cases_eq i n) [
           | inl here ↦
@@ -156,12 +191,20 @@ one_left gone kept from to n x done at other = (done.0, places)
           | inr elsewhere ↦ (λ past. (done.1 i c c_at).0 (omega arith), λ below. (done.1 i c c_at).1 (omega arith))
         ]
 
-pub all_replaced : (gone kept : Term) (from to : List Term) (n : ℕ) → AreSoFar gone kept from to n → length to ≤ n → AreReplaced gone kept from to
-all_replaced gone kept from to n done end =
-    (done.0, λ i c at. (let within = slice_get_within from i c at in let same = done.0 in (done.1 i c at).1 (omega arith)))
+pub all_replaced : (gone kept : Term) (from to : List Term) (n : ℕ) → AreSoFar gone kept from to n → length to ≤ n
+    → AreReplaced gone kept from to
+all_replaced gone kept from to n done end = (
+  done.0,
+  λ i c at. (let within = slice_get_within from i c at in let same = done.0 in
+      (done.1 i c at).1 (omega arith)),
+)
 
 pub none_replaced : (gone kept : Term) (from to : List Term) → to ≡ from → AreSoFar gone kept from to 0
-none_replaced gone kept from to same = (ap length same, λ i c at. (λ past. ap (λ xs. slice_get xs i) same ∙ at, λ below. absurd (omega arith)))
+none_replaced gone kept from to same = (
+  ap length same,
+  λ i c at.
+      (λ past. ap (λ xs. slice_get xs i) same ∙ at, λ below. absurd (omega arith)),
+)
 
 pub same_or_not : (a b : Term) → (a ≡ b) ⊎ (a ≡ b → ⊥)
 same_or_not a b =
@@ -182,7 +225,8 @@ past_none xs m none =
 abbrev Comes : Term → Term → List Term → List Term → Term → Type 0
 Comes gone kept from to t = (class_in to t ≡ class_in from t) ⊎ ((class_in from t ≡ gone) × (class_in to t ≡ kept))
 
-entry_comes : (gone kept : Term) (from to : List Term) (m : ℕ) → AreReplaced gone kept from to → (found : Option Term) → slice_get from m ≡ found
+entry_comes : (gone kept : Term) (from to : List Term) (m : ℕ) → AreReplaced gone kept from to → (found : Option Term)
+    → slice_get from m ≡ found
     → (entry m (slice_get to m) ≡ entry m found) ⊎ ((entry m found ≡ gone) × (entry m (slice_get to m) ≡ kept))
 entry_comes gone kept from to m r None at =
     inl (ap (entry m) (slice_get_past to m (let outside = past_none from m at in let same = r.0 in omega arith)))
@@ -199,7 +243,8 @@ comes gone kept from to (Univ m) r = entry_comes gone kept from to m r (slice_ge
 
 -- two terms stay apart unless the one is of the class that goes, and the other of the one that comes
 stay_two : (gone kept : Term) (from to : List Term) (x y : Term) → AreReplaced gone kept from to → AreTwo from x y
-    → (class_in from x ≡ gone → class_in from y ≡ kept → ⊥) → (class_in from x ≡ kept → class_in from y ≡ gone → ⊥) → AreTwo to x y
+    → (class_in from x ≡ gone → class_in from y ≡ kept → ⊥) → (class_in from x ≡ kept → class_in from y ≡ gone → ⊥)
+    → AreTwo to x y
 stay_two gone kept from to x y r two one other =
     λ same.
     elim (comes gone kept from to x r) [
@@ -223,7 +268,8 @@ turned : (k : Known) (a b : Term) → IsKeptFrom k a b → IsKeptFrom k b a
 turned k a b (inl apart) = inl (apart.0, apart.1, apart.2, elim apart.3 [ inl x ↦ inr x | inr x ↦ inl x ])
 turned k a b (inr placed) = inr (placed.1, placed.0)
 
-pub joined : (k : Known) (gone kept : Term) (to : List Term) → (IsKeptFrom k gone kept → ⊥) → IsConsistent k → AreReplaced gone kept k.classes to
+pub joined : (k : Known) (gone kept : Term) (to : List Term) → (IsKeptFrom k gone kept → ⊥) → IsConsistent k
+    → AreReplaced gone kept k.classes to
     → IsConsistent (record { classes = to; cells = k.cells; apart = k.apart })
 joined k gone kept to free is r =
     record {
@@ -242,7 +288,8 @@ joined k gone kept to free is r =
     }
 
 -- nothing changes where a class takes its own place
-unchanged : (k : Known) (gone kept : Term) (to : List Term) → gone ≡ kept → IsConsistent k → AreReplaced gone kept k.classes to
+unchanged : (k : Known) (gone kept : Term) (to : List Term) → gone ≡ kept → IsConsistent k
+    → AreReplaced gone kept k.classes to
     → IsConsistent (record { classes = to; cells = k.cells; apart = k.apart })
 unchanged k gone kept to same is r =
     record {
@@ -259,14 +306,17 @@ unchanged k gone kept to same is r =
 
 -- the classes of two terms that nothing keeps apart become one
 pub equated : (k : Known) (t u : Term) (to : List Term) → (MustDiffer k t u → ⊥) → IsConsistent k
-    → AreReplaced (class_in k.classes u) (class_in k.classes t) k.classes to → IsConsistent (record { classes = to; cells = k.cells; apart = k.apart })
+    → AreReplaced (class_in k.classes u) (class_in k.classes t) k.classes to
+    → IsConsistent (record { classes = to; cells = k.cells; apart = k.apart })
 equated k t u to free is r = elim (same_or_not (class_in k.classes u) (class_in k.classes t)) [
   | inl same ↦ unchanged k (class_in k.classes u) (class_in k.classes t) to same is r
-  | inr other ↦ joined k (class_in k.classes u) (class_in k.classes t) to (λ kept. free (λ e. other (sym e), turned k (class_in k.classes u) (class_in k.classes t) kept)) is r
+  | inr other ↦ joined k (class_in k.classes u) (class_in k.classes t) to
+      (λ kept. free (λ e. other (sym e), turned k (class_in k.classes u) (class_in k.classes t) kept)) is r
 ]
 
 pub equated_back : (k : Known) (t u : Term) (to : List Term) → (MustDiffer k t u → ⊥) → IsConsistent k
-    → AreReplaced (class_in k.classes t) (class_in k.classes u) k.classes to → IsConsistent (record { classes = to; cells = k.cells; apart = k.apart })
+    → AreReplaced (class_in k.classes t) (class_in k.classes u) k.classes to
+    → IsConsistent (record { classes = to; cells = k.cells; apart = k.apart })
 equated_back k t u to free is r = elim (same_or_not (class_in k.classes t) (class_in k.classes u)) [
   | inl same ↦ unchanged k (class_in k.classes t) (class_in k.classes u) to same is r
   | inr other ↦ joined k (class_in k.classes t) (class_in k.classes u) to (λ kept. free (other, kept)) is r

@@ -20,12 +20,13 @@ class_in classes (Univ n) = elim (slice_get classes n) [ None ↦ Univ n | Some 
 abbrev pub AreTwo : List Term → Term → Term → Type 0
 AreTwo classes t u = class_in classes t ≡ class_in classes u → ⊥
 
--- the pairs that are to differ do, and each cell has an address of its own, which is not nil: where different classes get
--- different values, that is a model
+-- the pairs that are to differ do, and each cell has an address of its own, which is not nil: where different classes
+-- get different values, that is a model
 pub record IsConsistent (k : Known) : Type 0 where
   pub apart : (i : ℕ) (pair : Term × Term) → slice_get k.apart i ≡ Some pair → AreTwo k.classes pair.0 pair.1
   pub placed : (i : ℕ) (c : SymbolicCell) → slice_get k.cells i ≡ Some c → AreTwo k.classes Nil c.address
-  pub distinct : (i j : ℕ) (c d : SymbolicCell) → i < j → slice_get k.cells i ≡ Some c → slice_get k.cells j ≡ Some d → AreTwo k.classes c.address d.address
+  pub distinct : (i j : ℕ) (c d : SymbolicCell) → i < j → slice_get k.cells i ≡ Some c → slice_get k.cells j ≡ Some d
+      → AreTwo k.classes c.address d.address
 
 -- a pair that is to differ is of these two classes
 abbrev pub JoinsClasses : List Term → Term → Term → Term × Term → Type 0
@@ -45,10 +46,12 @@ abbrev pub MustDiffer : Known → Term → Term → Type 0
 MustDiffer k t u =
     AreTwo k.classes t u
     × (AreApart k (class_in k.classes t) (class_in k.classes u)
-    ⊎ (((class_in k.classes t ≡ Nil) ⊎ HasCell k (class_in k.classes t)) × ((class_in k.classes u ≡ Nil) ⊎ HasCell k (class_in k.classes u))))
+    ⊎ (((class_in k.classes t ≡ Nil) ⊎ HasCell k (class_in k.classes t))
+    × ((class_in k.classes u ≡ Nil) ⊎ HasCell k (class_in k.classes u))))
 
 -- the same classes, but for one in whose place another stands
 abbrev pub AreReplaced : Term → Term → List Term → List Term → Type 0
 AreReplaced gone kept from to =
     (length to ≡ length from)
-    × ((i : ℕ) (c : Term) → slice_get from i ≡ Some c → (c ≡ gone → slice_get to i ≡ Some kept) × ((c ≡ gone → ⊥) → slice_get to i ≡ Some c))
+    × ((i : ℕ) (c : Term) → slice_get from i ≡ Some c
+    → (c ≡ gone → slice_get to i ≡ Some kept) × ((c ≡ gone → ⊥) → slice_get to i ≡ Some c))

@@ -1,11 +1,12 @@
 // What an unfolding of a predicate says of nil and its arguments.
 use crate::unfolding::Unfolding;
-use cyc_memory::OutOfMemory;
+use cyc_basics::memory::OutOfMemory;
 use heap_formula::{Args, Term};
 use std::alloc::Global;
 
-/// A base pair (Brotherston, Fuhs, Navarro Pérez and Gorogiannis 2014): which of nil and the parameters are equal, which differ, and
-/// which are cells, each class of these by its least member. Place 0 is nil, and the parameters follow.
+/// A base pair (Brotherston, Fuhs, Navarro Pérez and Gorogiannis 2014): which of nil and the parameters are equal,
+/// which differ, and which are cells, each class of these by its least member. Place 0 is nil, and the parameters
+/// follow.
 #[derive(Drop)]
 pub struct BasePair {
     same: Vec<(usize, usize)>,

@@ -3,7 +3,7 @@ use crate::base_pairs::BasePair;
 use crate::derivations::Derivations;
 use crate::unfolding::Unfolding;
 use crate::uses::OpenAtom;
-use cyc_memory::OutOfMemory;
+use cyc_basics::memory::OutOfMemory;
 use std::alloc::{AllocError, Global};
 
 /// Base pairs that were chosen for some atoms, each by its number, and what they say together.

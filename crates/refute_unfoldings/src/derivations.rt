@@ -3,7 +3,7 @@ use crate::base_pairs::BasePair;
 use crate::choices::{Choice, Choices};
 use crate::unfolding::Unfolding;
 use crate::uses::{OpenAtom, PredicateUse};
-use cyc_memory::OutOfMemory;
+use cyc_basics::memory::OutOfMemory;
 use heap_formula::{Args, Heap, Spatial, Term};
 use pred_defs::Defs;
 use std::alloc::Global;
@@ -30,7 +30,7 @@ struct Turn {
 
 /// A base pair on its way into the replay of a derivation.
 #[derive(Clone, Copy)]
-struct Step {
+struct CaseStep {
     open: OpenAtom,
     number: Option<usize>,
 }
@@ -217,8 +217,8 @@ impl Derivations<'_> {
     fn replay_step(
         &self,
         unfolding: &mut Unfolding,
-        steps: &mut Vec<Step>,
-        step: &Step,
+        steps: &mut Vec<CaseStep>,
+        step: &CaseStep,
     ) -> Result<bool, OutOfMemory> {
         let (Some(number), Some(row)) = (
             step.number,
@@ -241,7 +241,7 @@ impl Derivations<'_> {
         let may_be = unfolding.replace(&step.open, derivation.case, &body, &mut open)?;
         for (open, number) in open.iter().zip(&derivation.numbers) {
             let (open, number) = (*open, *number);
-            steps.push(Step { open, number })?;
+            steps.push(CaseStep { open, number })?;
         }
         Ok(may_be)
     }
@@ -256,7 +256,7 @@ impl Derivations<'_> {
         let mut steps = Vec::new(self.alloc);
         for (open, number) in atoms.iter().zip(numbers) {
             let (open, number) = (*open, *number);
-            steps.push(Step { open, number })?;
+            steps.push(CaseStep { open, number })?;
         }
         for _ in 0..MOST_STEPS {
             let Some(step) = steps.pop() else {

@@ -1,8 +1,8 @@
 // The most general model of an unfolding.
 use crate::unfolding::Unfolding;
 use crate::uses::Replaced;
-use case_derivations::CaseStep;
-use cyc_memory::OutOfMemory;
+use cyc_basics::memory::OutOfMemory;
+use general_models::derivations::CaseStep;
 use goto_lang::Stack;
 use heap_formula::{Args, Term};
 use std::alloc::Global;
@@ -14,9 +14,9 @@ pub struct Cell {
     pub fields: Vec<u64>,
 }
 
-/// A stack and a heap. The cells stand at the addresses from 1 on, in this order; other values follow them. `bound` is above all
-/// values, `names` has a variable for each value, `steps` is the derivation that the unfolding makes, and `apart` the pairs of values
-/// that it asks to differ.
+/// A stack and a heap. The cells stand at the addresses from 1 on, in this order; other values follow them. `bound` is
+/// above all values, `names` has a variable for each value, `steps` is the derivation that the unfolding makes, and
+/// `apart` the pairs of values that it asks to differ.
 #[derive(Drop)]
 pub struct Model {
     pub stack: Vec<u64>,

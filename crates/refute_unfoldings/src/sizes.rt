@@ -1,5 +1,5 @@
 // How many unfoldings a predicate needs at least.
-use cyc_memory::OutOfMemory;
+use cyc_basics::memory::OutOfMemory;
 use heap_formula::{Heap, Spatial};
 use pred_defs::Defs;
 use std::alloc::Global;

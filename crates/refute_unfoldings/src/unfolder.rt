@@ -3,14 +3,15 @@ use crate::choices::is_better;
 use crate::sizes::Sizes;
 use crate::unfolding::Unfolding;
 use crate::uses::OpenAtom;
-use cyc_memory::OutOfMemory;
+use cyc_basics::memory::OutOfMemory;
 use pred_defs::Defs;
 use std::alloc::Global;
 
 /// How many of the open atoms are looked at for the one with the fewest cases.
 const MOST_LOOKS: usize = 14;
 
-/// An unfolding on its way: atoms that are open, and how many unfoldings more than the least number are still to be made.
+/// An unfolding on its way: atoms that are open, and how many unfoldings more than the least number are still to be
+/// made.
 #[derive(Drop)]
 struct Branch {
     unfolding: Unfolding,

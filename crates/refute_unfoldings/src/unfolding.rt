@@ -1,10 +1,11 @@
 // What is known of the values of an antecedent that was unfolded.
 ghost use Rattle.std.specs.Prelude.{◌≡◌, ◌↔◌, ◌⊎◌, ◌++◌, [], ◌∷◌, IsSome, true, false};
 ghost use Rattle.heap_formula.specs.declared.terms.Term.TheVariants.{Nil};
-ghost use Rattle.refute_unfoldings.specs.Consistency.{Known, IsConsistent, AreReplaced, class_in, AreApart, HasCell, JoinsClasses, MustDiffer};
+ghost use Rattle.refute_unfoldings.specs.Consistency.{Known, IsConsistent, AreReplaced, class_in, AreApart, HasCell};
+ghost use Rattle.refute_unfoldings.specs.Consistency.{JoinsClasses, MustDiffer};
 
 use crate::uses::{OpenAtom, PredicateUse, Replaced};
-use cyc_memory::OutOfMemory;
+use cyc_basics::memory::OutOfMemory;
 use heap_formula::{Args, Heap, Pure, Spatial, Term, bound_of_heap};
 use std::alloc::{AllocError, Global};
 use std::marker::Model;
@@ -22,9 +23,10 @@ pub struct SymbolicCell {
     pub fields: Args,
 }
 
-/// Universal variables with what is known of their values: which are equal, which differ, and which cells there are. None of it
-/// contradicts the rest. For each variable `classes` has nil or the least variable that equals it. `atoms` has for each predicate atom that came in by what it was
-/// replaced; the first `roots` of them are those of the formula.
+/// Universal variables with what is known of their values: which are equal, which differ, and which cells there are.
+/// None of it contradicts the rest. For each variable `classes` has nil or the least variable that equals it. `atoms`
+/// has for each predicate atom that came in by what it was replaced; the first `roots` of them are those of the
+/// formula.
 #[derive(Drop)]
 pub struct Unfolding {
     classes: Vec<Term>,
@@ -39,7 +41,11 @@ impl Model for Unfolding {
 
     ghost view = { λ u. record { classes = u.classes.items; cells = u.cells.items; apart = u.apart.items } };
 
-    ghost invariant = { λ u. IsConsistent (record { classes = u.classes.items; cells = u.cells.items; apart = u.apart.items }) };
+    ghost invariant = { λ u. IsConsistent (record {
+      classes = u.classes.items;
+      cells = u.cells.items;
+      apart = u.apart.items;
+    }) };
 }
 
 impl Clone for Unfolding {
@@ -263,8 +269,8 @@ impl Unfolding {
         Ok(true)
     }
 
-    /// Adds the pure atoms and the cells of a heap without existential variables; its predicate atoms are open from now on.
-    /// Whether that may be.
+    /// Adds the pure atoms and the cells of a heap without existential variables; its predicate atoms are open from now
+    /// on. Whether that may be.
     fn add_heap(&mut self, heap: &Heap, open: &mut Vec<OpenAtom>) -> Result<bool, OutOfMemory> {
         let bound = bound_of_heap(heap);
         if bound > MOST_VALUES {

@@ -1,5 +1,5 @@
 // Predicate atoms, and the cases that they unfold to.
-use cyc_memory::OutOfMemory;
+use cyc_basics::memory::OutOfMemory;
 use heap_formula::{Args, Heap, exists_in_heap};
 use pred_defs::{Defs, Fresh, case_body};
 use std::alloc::Global;
@@ -32,8 +32,8 @@ pub(crate) struct Replaced {
 }
 
 impl PredicateUse {
-    /// A case of the predicate with these arguments, and variables from a number on as its locals; none where there is no such
-    /// case, or where numbers run out.
+    /// A case of the predicate with these arguments, and variables from a number on as its locals; none where there is
+    /// no such case, or where numbers run out.
     pub(crate) fn body(
         &self,
         alloc: Global,

@@ -10,7 +10,8 @@ use Rattle.heap_formula.specs.declared.judgements.Judgement.{Judgement}
 use Rattle.heap_formula.specs.declared.judgements.Judgement.TheVariants.{Entail}
 use Rattle.heap_formula.specs.declared.judgements.Pair.{Pair}
 use Rattle.heap_formula.specs.declared.judgements.Premise.{Premise}
-use Rattle.heap_formula.specs.declared.proof_rules.Rule.TheVariants.{Rewrite, Unfold, Done, PureRight, Instantiate, Frame, UnfoldRight}
+use Rattle.heap_formula.specs.declared.proof_rules.Rule.TheVariants.{Rewrite, Unfold, Done, PureRight, Instantiate}
+use Rattle.heap_formula.specs.declared.proof_rules.Rule.TheVariants.{Frame, UnfoldRight}
 use Rattle.heap_formula.specs.declared.proof_rules.RuleFault.TheVariants.{TooManyAtoms, NoFreshVariable, AtomsDiffer}
 use Rattle.heap_formula.specs.declared.proof_rules.Side.TheVariants.{Left}
 use Rattle.heap_formula.specs.Definitions.{Definition}
@@ -32,9 +33,11 @@ premise a b pairs = record { judgement = entails a b; pairs = pairs }
 abbrev pub pair : ℕ → ℕ → Bool → Pair
 pair old new progress = record { old = old; new = new; progress = progress }
 
-passes : (most : ℕ) (ps : List Premise) → each_heap (is_short most) ps ≡ true → each_heap has_numbers ps ≡ true → limited most ps ≡ Ok ps
+passes : (most : ℕ) (ps : List Premise) → each_heap (is_short most) ps ≡ true → each_heap has_numbers ps ≡ true
+    → limited most ps ≡ Ok ps
 passes most ps a b =
-    ap (λ t. needs t TooManyAtoms (needs (each_heap has_numbers ps) NoFreshVariable (Ok ps))) a ∙ ap (λ t. needs t NoFreshVariable (Ok ps)) b
+    ap (λ t. needs t TooManyAtoms (needs (each_heap has_numbers ps) NoFreshVariable (Ok ps))) a
+    ∙ ap (λ t. needs t NoFreshVariable (Ok ps)) b
 
 -- ---- numbers below the limit
 
@@ -58,15 +61,22 @@ fresh_after p q i = simp (max-zero, zero-max) (omega arith)
 module _ (k i : ℕ) (ds : List Definition) (small : i ≤ 2000) where
   pub unfolds : cases_of ds i ≡ is_nil (Univ 0) ∷ cell_then (Univ 0) (Exist 0) (after k i) ∷ [] →
       rule_answer 16 ds [] (entails (holds i (Univ i)) (holds k (Univ i))) (Unfold 0) ≡
-      Ok (premise (is_nil (Univ i)) (holds k (Univ i)) [] ∷ premise (cell_then (Univ i) (Univ (i + 1)) (after k i)) (holds k (Univ i)) (pair 0 1 true ∷ []) ∷ [])
+      Ok (premise (is_nil (Univ i)) (holds k (Univ i)) []
+      ∷ premise (cell_then (Univ i) (Univ (i + 1)) (after k i)) (holds k (Univ i)) (pair 0 1 true ∷ []) ∷ [])
   unfolds cases =
       let j = entails (holds i (Univ i)) (holds k (Univ i)) in
-      let before = (λ (n : ℕ). premise (is_nil (Univ i)) (holds k (Univ i)) [] ∷ premise (cell_then (Univ i) (Univ n) (after k i)) (holds k (Univ i)) (pair 0 1 true ∷ []) ∷ []) in
+      let before = (λ (n : ℕ). premise (is_nil (Univ i)) (holds k (Univ i)) []
+      ∷ premise (cell_then (Univ i) (Univ n) (after k i)) (holds k (Univ i)) (pair 0 1 true ∷ []) ∷ []) in
       ap (λ cs. limited 16 (map (unfold_premise j 0 (Univ i ∷ []) (fresh_number 0 j)) cs)) cases ∙
       (ap (λ n. limited 16 (before n)) (fresh_after i k i) ∙
-      passes 16 (before (i + 1)) refl (rw (small_nil i (omega arith), small_holds k i (omega arith), small_cell i (after k i) small)))
+      passes 16 (before (i + 1)) refl (rw (
+        small_nil i (omega arith),
+        small_holds k i (omega arith),
+        small_cell i (after k i) small,
+      )))
 
-  pub rewrites : rule_answer 16 ds [] (entails (is_nil (Univ i)) (holds k (Univ i))) (Rewrite 0 Left) ≡ Ok (premise emp (holds k Nil) [] ∷ [])
+  pub rewrites : rule_answer 16 ds [] (entails (is_nil (Univ i)) (holds k (Univ i))) (Rewrite 0 Left)
+      ≡ Ok (premise emp (holds k Nil) [] ∷ [])
   rewrites = simp (leb-zero, eq-eqb i i refl)
 
   pub unfolds_nil : cases_of ds k ≡ is_nil (Univ 0) ∷ cell_then (Univ 0) (Exist 0) k ∷ [] →
@@ -80,15 +90,21 @@ module _ (k i : ℕ) (ds : List Definition) (small : i ≤ 2000) where
   done' = refl
 
   pub unfolds_cell : cases_of ds k ≡ is_nil (Univ 0) ∷ cell_then (Univ 0) (Exist 0) k ∷ [] →
-      rule_answer 16 ds [] (entails (cell_then (Univ i) (Univ (i + 1)) (after k i)) (holds k (Univ i))) (UnfoldRight 0 1) ≡
-      Ok (premise (cell_then (Univ i) (Univ (i + 1)) (after k i)) (cell_then (Univ i) (Exist 0) k) (pair 1 1 false ∷ []) ∷ [])
+      rule_answer 16 ds [] (entails (cell_then (Univ i) (Univ (i + 1)) (after k i)) (holds k (Univ i)))
+      (UnfoldRight 0 1) ≡
+      Ok (premise (cell_then (Univ i) (Univ (i + 1)) (after k i)) (cell_then (Univ i) (Exist 0) k) (pair 1 1 false ∷ [])
+      ∷ [])
   unfolds_cell cases = rw cases (rw (small_cell i (after k i) small, small_open i k small))
 
-  pub instantiates : rule_answer 16 ds [] (entails (cell_then (Univ i) (Univ (i + 1)) (after k i)) (cell_then (Univ i) (Exist 0) k)) (Instantiate 0 (Univ (i + 1))) ≡
-      Ok (premise (cell_then (Univ i) (Univ (i + 1)) (after k i)) (cell_then (Univ i) (Univ (i + 1)) k) (pair 1 1 false ∷ []) ∷ [])
+  pub instantiates : rule_answer 16 ds [] (entails (cell_then (Univ i) (Univ (i + 1)) (after k i))
+      (cell_then (Univ i) (Exist 0) k)) (Instantiate 0 (Univ (i + 1))) ≡
+      Ok (premise (cell_then (Univ i) (Univ (i + 1)) (after k i)) (cell_then (Univ i) (Univ (i + 1)) k)
+      (pair 1 1 false ∷ []) ∷ [])
   instantiates = refl
 
-  pub frames : rule_answer 16 ds [] (entails (cell_then (Univ i) (Univ (i + 1)) (after k i)) (cell_then (Univ i) (Univ (i + 1)) k)) (Frame 0 0) ≡
+  pub frames : rule_answer 16 ds [] (entails (cell_then (Univ i) (Univ (i + 1)) (after k i))
+      (cell_then (Univ i) (Univ (i + 1)) k)) (Frame 0 0) ≡
       Ok (premise (holds (after k i) (Univ (i + 1))) (holds k (Univ (i + 1))) (pair 1 0 false ∷ []) ∷ [])
   frames =
-      ap (λ t. needs t AtomsDiffer (Ok (premise (holds (after k i) (Univ (i + 1))) (holds k (Univ (i + 1))) (pair 1 0 false ∷ []) ∷ []))) (same_spatial_self (Cell (Univ i) (Univ (i + 1) ∷ [])))
+      ap (λ t. needs t AtomsDiffer (Ok (premise (holds (after k i) (Univ (i + 1))) (holds k (Univ (i + 1)))
+      (pair 1 0 false ∷ []) ∷ []))) (same_spatial_self (Cell (Univ i) (Univ (i + 1) ∷ [])))

@@ -3,20 +3,23 @@ use Rattle.std.proofs.Common.{◌≡◌, ℕ, ◌+◌, ◌*◌, ◌<◌, ◌≤�
 use Rattle.std.proofs.lemmas.Bool.{eq-eqb}
 use Rattle.heap_formula.specs.declared.terms.Term.TheVariants.{Nil, Univ, Exist}
 use Rattle.heap_formula.specs.declared.proof_rules.Rule.{Rule}
-use Rattle.heap_formula.specs.declared.proof_rules.Rule.TheVariants.{Rewrite, Unfold, Done, PureRight, Instantiate, Frame, UnfoldRight}
+use Rattle.heap_formula.specs.declared.proof_rules.Rule.TheVariants.{Rewrite, Unfold, Done, PureRight, Instantiate}
+use Rattle.heap_formula.specs.declared.proof_rules.Rule.TheVariants.{Frame, UnfoldRight}
 use Rattle.heap_formula.specs.declared.proof_rules.Side.TheVariants.{Left}
 use Rattle.heap_formula.specs.Definitions.{Definition}
 use Rattle.heap_formula.specs.Symbolic.{SymbolicHeap}
 use Rattle.rule_table.specs.Answer.{Answer}
 use Rattle.rule_table.specs.RuleBook.{rule_answer}
 use Rattle.logics.specs.Graphs.{rule_edges}
-use Rattle.node_reasons.specs.Graphs.{Node}
-use Rattle.node_reasons.specs.SeparationLogic.{traced_answer}
+use Rattle.rule_book.specs.Graphs.{Node}
+use Rattle.rule_book.specs.SeparationLogic.{traced_answer}
 use Rattle.trace_pairs.specs.Graph.{Node as GraphNode, Edge as GraphEdge, Pair as TracePair}
 use Rattle.proof_graph.specs.Traces.{predicate_places}
-use Rattle.ring_family.specs.Ring.{emp, is_nil, holds, cell_then, after, ring_definitions, by_rule, ring_block, ring_bud, in_blocks, ring_nodes}
+use Rattle.ring_family.specs.Ring.{emp, is_nil, holds, cell_then, after, ring_definitions, by_rule, ring_block}
+use Rattle.ring_family.specs.Ring.{ring_bud, in_blocks, ring_nodes}
 use Rattle.proof_check.specs.Files.{graph_node, graph_of}
-use Rattle.ring_family.proofs.Answers.{entails, unfolds, rewrites, unfolds_nil, drops_pure, done', unfolds_cell, instantiates, frames}
+use Rattle.ring_family.proofs.Answers.{entails, unfolds, rewrites, unfolds_nil, drops_pure, done', unfolds_cell}
+use Rattle.ring_family.proofs.Answers.{instantiates, frames}
 use Rattle.ring_family.proofs.Blocks.{blocks_map}
 use Rattle.ring_family.proofs.Right.{cases_at, cases_last, node_at}
 
@@ -56,9 +59,12 @@ module _ (k : ℕ) (one : 1 ≤ k) (few : k ≤ 2000) where
   ds = ring_definitions k
 
   -- a node by a rule with this answer
-  answered : (a b : SymbolicHeap) (rule : Rule) (us : List ℕ) (answer : Answer) → rule_answer 16 ds [] (entails a b) rule ≡ answer →
-      graph_node 16 ds [] nodes (by_rule a b rule us) ≡ graph_node_of (predicate_places 0 a.spatial) (rule_edges us (traced_answer answer))
-  answered a b rule us answer e = ap (λ (t : Answer). graph_node_of (predicate_places 0 a.spatial) (rule_edges us (traced_answer t))) e
+  answered : (a b : SymbolicHeap) (rule : Rule) (us : List ℕ) (answer : Answer)
+      → rule_answer 16 ds [] (entails a b) rule ≡ answer →
+      graph_node 16 ds [] nodes (by_rule a b rule us)
+      ≡ graph_node_of (predicate_places 0 a.spatial) (rule_edges us (traced_answer answer))
+  answered a b rule us answer e = ap (λ (t : Answer). graph_node_of (predicate_places 0 a.spatial)
+      (rule_edges us (traced_answer t))) e
 
   block_graph : (m : ℕ) → m < k → map (graph_node 16 ds [] nodes) (ring_block k m) ≡ graph_block m
   block_graph m b =
@@ -67,8 +73,10 @@ module _ (k : ℕ) (one : 1 ≤ k) (few : k ≤ 2000) where
       let cell = cell_then (Univ m) (Univ (m + 1)) (after k m) in
       let open' = cell_then (Univ m) (Exist 0) k in
       let shut = cell_then (Univ m) (Univ (m + 1)) k in
-      let n0 = answered (holds m (Univ m)) (holds k (Univ m)) (Unfold 0) ((8 * m + 1) ∷ (8 * m + 5) ∷ []) _ (unfolds k m ds small (cases_at k 0 k m m (omega arith) (omega arith))) in
-      let n1 = answered (is_nil (Univ m)) (holds k (Univ m)) (Rewrite 0 Left) ((8 * m + 2) ∷ []) _ (rewrites k m ds small) in
+      let n0 = answered (holds m (Univ m)) (holds k (Univ m)) (Unfold 0) ((8 * m + 1) ∷ (8 * m + 5) ∷ []) _
+      (unfolds k m ds small (cases_at k 0 k m m (omega arith) (omega arith))) in
+      let n1 = answered (is_nil (Univ m)) (holds k (Univ m)) (Rewrite 0 Left) ((8 * m + 2) ∷ []) _
+      (rewrites k m ds small) in
       let n2 = answered emp (holds k Nil) (UnfoldRight 0 0) ((8 * m + 3) ∷ []) _ (unfolds_nil k m ds small q) in
       let n3 = answered emp (is_nil Nil) (PureRight 0) ((8 * m + 4) ∷ []) _ (drops_pure k m ds small) in
       let n4 = answered emp emp Done [] _ (done' k m ds small) in
@@ -81,4 +89,5 @@ module _ (k : ℕ) (one : 1 ≤ k) (few : k ≤ 2000) where
   bud_graph = rw (node_at k one few 0 0 0 _ (omega arith) refl refl) (rw (eq-eqb k k refl))
 
   pub ring_graph_is : graph_of 16 ds [] nodes ≡ ring_graph k
-  ring_graph_is = blocks_map (graph_node 16 ds [] nodes) (ring_block k) (ring_bud k) graph_block graph_bud 0 k (λ m _ b. block_graph m (omega (arith, b))) bud_graph
+  ring_graph_is = blocks_map (graph_node 16 ds [] nodes) (ring_block k) (ring_bud k) graph_block graph_bud 0 k
+      (λ m _ b. block_graph m (omega (arith, b))) bud_graph

@@ -31,7 +31,8 @@ digit_continues c h = is_xid_continue-ascii c (let s = digit_small c h in omega 
 
 digits_continue : (cs : List ℕ) → list_all is_ascii_digit cs ≡ true → list_all is_xid_continue cs ≡ true
 digits_continue [] h = refl
-digits_continue (c ∷ cs) h = let p = and-parts (is_ascii_digit c) (list_all is_ascii_digit cs) h in rw (digit_continues c p.0, digits_continue cs p.1) refl
+digits_continue (c ∷ cs) h = let p = and-parts (is_ascii_digit c) (list_all is_ascii_digit cs) h in
+    rw (digit_continues c p.0, digits_continue cs p.1) refl
 
 -- `p` and up to 63 digits
 digits_name : (ds : List ℕ) → list_all is_ascii_digit ds ≡ true → length ds ≤ 63 → is_name_text (112 ∷ ds) ≡ true
@@ -54,7 +55,8 @@ not_reserved (d ∷ ds) h =
     let other : nat_eq d 114 ≡ false = ne_eqb d 114 (λ e. omega (arith, e, s)) in
     rw other refl
 
-digits_free : (ds : List ℕ) → list_all is_ascii_digit ds ≡ true → length ds ≤ 63 → is_free_name reserved (112 ∷ ds) ≡ true
+digits_free : (ds : List ℕ) → list_all is_ascii_digit ds ≡ true → length ds ≤ 63
+    → is_free_name reserved (112 ∷ ds) ≡ true
 unfolding is_free_name
 digits_free ds h few = rw (digits_name ds h few, not_reserved ds h) refl
 

@@ -1,5 +1,6 @@
 -- A graph in which every cycle lies on a ring, one trace goes on along it, and each turn progresses.
-use Rattle.std.proofs.Common.{◌≡◌, ℕ, suc, ◌<◌, ◌≤◌, ◌⊎◌, inl, inr, List, [], ◌∷◌, arith, Bool, true, false, ◌||◌, Some, slice_get, length, sym, refl, ap, subst}
+use Rattle.std.proofs.Common.{◌≡◌, ℕ, suc, ◌<◌, ◌≤◌, ◌⊎◌, inl, inr, List, [], ◌∷◌, arith, Bool, true, false, ◌||◌, Some}
+use Rattle.std.proofs.Common.{slice_get, length, sym, refl, ap, subst}
 use Rattle.std.proofs.lemmas.Bool.{cases_Bool, both_ways}
 use Rattle.std.proofs.lemmas.List.{append-nil}
 use Rattle.trace_pairs.specs.Graph.{Node, Edge, IsEdge}
@@ -39,13 +40,27 @@ module _ (on : ℕ → Bool) (at : ℕ → ℕ) (rank : ℕ → ℕ) where
       trace : Trace g steps (at v) (at w) progress
       rises : (progress ≡ true) ⊎ ((progress ≡ false) × (rank v ≤ rank w) × (0 < length steps → rank v < rank w))
 
-    joined : (s : Step) (v : ℕ) (e : Edge) → s.node ≡ v → IsEdge g v s.edge e → (t : GoesOn v e) → Joins g s (at v) (at e.target) t.progress
+    joined : (s : Step) (v : ℕ) (e : Edge) → s.node ≡ v → IsEdge g v s.edge e → (t : GoesOn v e)
+        → Joins g s (at v) (at e.target) t.progress
     joined s v e same is_edge t =
-        record { e = e; is_edge = subst (λ x. IsEdge g x s.edge e) (sym same) is_edge; k = t.i; pair = (at v, at e.target, t.progress); is_pair = t.is_pair; old_is = refl; new_is = refl; progress_is = refl }
+        record {
+          e = e;
+          is_edge = subst (λ x. IsEdge g x s.edge e) (sym same) is_edge;
+          k = t.i;
+          pair = (at v, at e.target, t.progress);
+          is_pair = t.is_pair;
+          old_is = refl;
+          new_is = refl;
+          progress_is = refl;
+        }
 
     carries : (steps : List Step) (v w : ℕ) → IsPath g v steps w → on v ≡ true → on w ≡ true → Carries steps v w
     carries [] v w p a b =
-        record { progress = false; trace = (ap at p, refl); rises = inr (refl, (let e = ap rank p in omega (arith, e)), (λ h. absurd (omega (arith, h)))) }
+        record {
+          progress = false;
+          trace = (ap at p, refl);
+          rises = inr (refl, (let e = ap rank p in omega (arith, e)), (λ h. absurd (omega (arith, h))));
+        }
     carries (s ∷ steps) v w p a b =
         elim (cases_Bool (on p.1.target)) [
           | inl yes' ↦
@@ -59,7 +74,8 @@ module _ (on : ℕ → Bool) (at : ℕ → ℕ) (rank : ℕ → ℕ) where
           | inr no' ↦ absurd (both_ways (on w) (stays_off steps p.1.target w p.3 no').0 b)
         ]
       where
-        both : (x y : Bool) (i j k n : ℕ) → (x ≡ true) ⊎ ((x ≡ false) × (i < j)) → (y ≡ true) ⊎ ((y ≡ false) × (j ≤ k) × (0 < n → j < k)) →
+        both : (x y : Bool) (i j k n : ℕ) → (x ≡ true) ⊎ ((x ≡ false) × (i < j))
+            → (y ≡ true) ⊎ ((y ≡ false) × (j ≤ k) × (0 < n → j < k)) →
             ((x || y) ≡ true) ⊎ (((x || y) ≡ false) × (i ≤ k) × (0 < suc n → i < k))
         both true y i j k n c d = inl refl
         both false y i j k n (inl c) d = absurd (both_ways false refl c)

@@ -9,11 +9,12 @@ use Rattle.heap_formula.specs.declared.atoms.Spatial.TheVariants.{Cell, Pred}
 use Rattle.heap_formula.specs.declared.judgements.Judgement.TheVariants.{Entail}
 use Rattle.heap_formula.specs.declared.proof_rules.Reason.TheVariants.{Step, Back}
 use Rattle.heap_formula.specs.declared.proof_rules.Rule.{Rule}
-use Rattle.heap_formula.specs.declared.proof_rules.Rule.TheVariants.{Rewrite, Unfold, Done, PureRight, Instantiate, Frame, UnfoldRight}
+use Rattle.heap_formula.specs.declared.proof_rules.Rule.TheVariants.{Rewrite, Unfold, Done, PureRight, Instantiate}
+use Rattle.heap_formula.specs.declared.proof_rules.Rule.TheVariants.{Frame, UnfoldRight}
 use Rattle.heap_formula.specs.declared.proof_rules.Side.TheVariants.{Left}
 use Rattle.heap_formula.specs.Definitions.{Definition}
 use Rattle.heap_formula.specs.Symbolic.{SymbolicHeap}
-use Rattle.node_reasons.specs.Graphs.{Node}
+use Rattle.rule_book.specs.Graphs.{Node}
 use Rattle.proof_file.specs.FileNodes.{FileNode}
 
 -- ---- formulas

@@ -3,7 +3,7 @@ ghost use Rattle.std.specs.Prelude.{◌≡◌, ◌<◌, ◌+◌, ◌-◌, ◌∷
 ghost use Rattle.ring_family.specs.Ring.{after, list_of, ring_definitions};
 
 use crate::formulas::{cell_then, is_nil};
-use cyc_memory::OutOfMemory;
+use cyc_basics::memory::OutOfMemory;
 use heap_formula::{Cases, Def, DefName, Term};
 use std::alloc::Global;
 

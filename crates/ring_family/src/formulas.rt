@@ -1,9 +1,10 @@
 // The formulas of the family, and nodes over them.
 ghost use Rattle.std.specs.Prelude.{◌≡◌, [], ◌∷◌, IfOk};
 ghost use Rattle.heap_formula.specs.declared.atoms.Spatial.TheVariants.{Cell, Pred};
-ghost use Rattle.ring_family.specs.Ring.{emp as nothing, is_nil as nil_heap, holds as call_heap, cell_then as cell_heap, by_rule, file_node};
+ghost use Rattle.ring_family.specs.Ring.{emp as nothing, is_nil as nil_heap, holds as call_heap};
+ghost use Rattle.ring_family.specs.Ring.{cell_then as cell_heap, by_rule, file_node};
 
-use cyc_memory::OutOfMemory;
+use cyc_basics::memory::OutOfMemory;
 use heap_formula::{Args, Disjuncts, Heap, Judgement, Pure, Reason, Rule, Spatial, Term};
 use logics::Numbers;
 use proof_file::FileNode;

@@ -1,5 +1,6 @@
 // The laws of the ring family. The functions do nothing.
-ghost use Rattle.std.specs.Prelude.{◌≡◌, ◌<◌, ◌≤◌, ◌+◌, ◌*◌, ℕ, [], ◌∷◌, Bool, true, false, Some, slice_get, length, count_by};
+ghost use Rattle.std.specs.Prelude.{◌≡◌, ◌<◌, ◌≤◌, ◌+◌, ◌*◌, ℕ, [], ◌∷◌, Bool, true, false, Some, slice_get, length};
+ghost use Rattle.std.specs.Prelude.{count_by};
 ghost use Rattle.heap_formula.specs.declared.terms.Term.TheVariants.{Univ};
 ghost use Rattle.heap_formula.specs.declared.judgements.Judgement.TheVariants.{Entail};
 ghost use Rattle.heap_formula.specs.declared.proof_rules.Link.{Link};
@@ -35,8 +36,8 @@ pub fn ring_texts_are_short()
         → length (text_of_file One (ring_definitions k) [] (file_nodes (ring_nodes k))) < 16777216 }
 {}
 
-/// What is told of a ring's proof: the root is an entailment, and of 8 k + 1 nodes one is a link, by any test that tells
-/// links from steps by rules.
+/// What is told of a ring's proof: the root is an entailment, and of 8 k + 1 nodes one is a link, by any test that
+/// tells links from steps by rules.
 pub fn ring_has_one_link()
     ensures root { (k : ℕ) (root : FileNode) → slice_get (file_nodes (ring_nodes k)) 0 ≡ Some root
         → root.judgement ≡ Entail (holds 0 (Univ 0)) (holds k (Univ 0) ∷ []) }

@@ -8,5 +8,5 @@ pub mod laws;
 mod nodes;
 mod ring;
 
-pub use cyc_memory::OutOfMemory;
+pub use cyc_basics::memory::OutOfMemory;
 pub use ring::ring_file;

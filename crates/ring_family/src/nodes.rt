@@ -1,13 +1,14 @@
 // The nodes of the family, in blocks of eight.
 ghost use Rattle.std.specs.Prelude.{◌≡◌, ◌<◌, ◌+◌, ◌-◌, ◌*◌, ◌++◌, [], IfOk, OnOk};
-ghost use Rattle.ring_family.specs.Ring.{after, ring_block, ring_bud, ring_nodes, file_node, file_nodes, cell_then as cell_heap, unfold_node, rewrite_node, nil_case, cell_case};
+ghost use Rattle.ring_family.specs.Ring.{after, ring_block, ring_bud, ring_nodes, file_node, file_nodes};
+ghost use Rattle.ring_family.specs.Ring.{cell_then as cell_heap, unfold_node, rewrite_node, nil_case, cell_case};
 ghost use Rattle.heap_formula.specs.declared.terms.Term.TheVariants as terms;
 ghost use Rattle.heap_formula.specs.declared.proof_rules.Rule.TheVariants as rules;
 ghost use Rattle.heap_formula.specs.declared.proof_rules.Side.TheVariants as sides;
 
 use crate::definitions::successor;
 use crate::formulas::{by_rule, cell_then, emp, holds, is_nil};
-use cyc_memory::OutOfMemory;
+use cyc_basics::memory::OutOfMemory;
 use heap_formula::{Disjuncts, Heap, Judgement, Link, Positions, Reason, Rule, Side, Subst, Term};
 use logics::Numbers;
 use proof_file::FileNode;

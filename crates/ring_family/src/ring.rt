@@ -8,7 +8,7 @@ ghost use Rattle.ring_family.specs.Ring.{ring_definitions, ring_nodes, file_node
 
 use crate::definitions::definitions;
 use crate::nodes::nodes;
-use cyc_memory::OutOfMemory;
+use cyc_basics::memory::OutOfMemory;
 use goto_lang::Program;
 use heap_syntax::Version;
 use pred_defs::Defs;

@@ -6,7 +6,9 @@ use Rattle.heap_formula.specs.declared.commands.Command.{Command}
 use Rattle.heap_formula.specs.declared.judgements.Judgement.{Judgement}
 use Rattle.heap_formula.specs.declared.judgements.Premise.{Premise}
 use Rattle.heap_formula.specs.declared.proof_rules.Rule.{Rule}
-use Rattle.heap_formula.specs.declared.proof_rules.Rule.TheVariants.{Absurd, Rewrite, Split, Distinct, Weaken, Unfold, Cut, Done, Choose, PureRight, Instantiate, Frame, UnfoldRight, Exec, Drop}
+use Rattle.heap_formula.specs.declared.proof_rules.Rule.TheVariants.{Absurd, Rewrite, Split, Distinct, Weaken, Unfold}
+use Rattle.heap_formula.specs.declared.proof_rules.Rule.TheVariants.{Cut, Done, Choose, PureRight, Instantiate, Frame}
+use Rattle.heap_formula.specs.declared.proof_rules.Rule.TheVariants.{UnfoldRight, Exec, Drop}
 use Rattle.heap_formula.specs.declared.proof_rules.RuleError.{RuleError}
 use Rattle.heap_formula.specs.Closedness.{IsUniversalHeap}
 use Rattle.heap_formula.specs.Definitions.{Definition}
@@ -19,20 +21,26 @@ use Rattle.rule_table.specs.RuleBook.{variables_of, rule_answer}
 use Rattle.rule_table.specs.Soundness.{IsSound, HasVariables, HasUniversalTerms, IsUniversalPremise}
 use Rattle.goto_lang.specs.Lines.{IsProgram}
 use Rattle.rule_table.proofs.AllRules.{rule_is_sound}
-use Rattle.rule_table.proofs.LeftRules.{absurd_is_sound, rewrite_is_sound, split_is_sound, distinct_is_sound, weaken_is_sound, unfold_is_sound, cut_is_sound, drop_is_sound}
-use Rattle.rule_table.proofs.RightRules.{done_is_sound, choose_is_sound, pure_right_is_sound, instantiate_is_sound, frame_is_sound, unfold_right_is_sound}
+use Rattle.rule_table.proofs.LeftRules.{absurd_is_sound, rewrite_is_sound, split_is_sound, distinct_is_sound}
+use Rattle.rule_table.proofs.LeftRules.{weaken_is_sound, unfold_is_sound, cut_is_sound, drop_is_sound}
+use Rattle.rule_table.proofs.RightRules.{done_is_sound, choose_is_sound, pure_right_is_sound, instantiate_is_sound}
+use Rattle.rule_table.proofs.RightRules.{frame_is_sound, unfold_right_is_sound}
 use Rattle.rule_table.proofs.Keeps.{rule_keeps}
 use Rattle.symbolic_exec.proofs.ProgramLines.{program_commands}
 
 -- every rule but Exec, for any program with no more variables
-elsewhere : (most : ℕ) (ds : List Definition) (program lines : List Command) (j : Judgement) (rule : Rule) → rule ≢ Exec → HasVariables lines (variables_of program j) j → IsUniversalHeap (antecedent j) → IsSound ds lines j (rule_answer most ds program j rule)
+elsewhere : (most : ℕ) (ds : List Definition) (program lines : List Command) (j : Judgement) (rule : Rule) → rule ≢ Exec
+    → HasVariables lines (variables_of program j) j → IsUniversalHeap (antecedent j)
+    → IsSound ds lines j (rule_answer most ds program j rule)
 elsewhere most ds program lines j Absurd other v u = absurd_is_sound ds lines j
-elsewhere most ds program lines j (Rewrite k side) other v u = rewrite_is_sound ds lines (variables_of program j) j k side u
+elsewhere most ds program lines j (Rewrite k side) other v u = rewrite_is_sound ds lines (variables_of program j)
+    j k side u
 elsewhere most ds program lines j (Split t w) other v u = split_is_sound ds lines j t w
 elsewhere most ds program lines j (Distinct i k) other v u = distinct_is_sound ds lines j i k
 elsewhere most ds program lines j (Weaken k) other v u = weaken_is_sound ds lines j k
 elsewhere most ds program lines j (Unfold k) other v u = unfold_is_sound ds lines most (variables_of program j) j k v
-elsewhere most ds program lines j (Cut places f) other v u = cut_is_sound ds lines most (variables_of program j) j places f v
+elsewhere most ds program lines j (Cut places f) other v u = cut_is_sound ds lines most (variables_of program j)
+    j places f v
 elsewhere most ds program lines j Done other v u = done_is_sound ds lines j
 elsewhere most ds program lines j (Choose k) other v u = choose_is_sound ds lines j k
 elsewhere most ds program lines j (PureRight k) other v u = pure_right_is_sound ds lines j k
@@ -43,14 +51,24 @@ elsewhere most ds program lines j Exec other v u = absurd (other refl)
 elsewhere most ds program lines j (Drop k) other v u = drop_is_sound ds lines j k
 
 module _ (most : ℕ) (ds : List Definition) (program : List Command) (j : Judgement) (rule : Rule) where
-  pub answer_sound : (r : Result (Vec Premise Global) RuleError) → IsProgram program → IsAnswer r (rule_answer most ds program j rule) → IfOk r (λ v. IsUniversalHeap (antecedent j) → IsLocallySound ds program j v.items)
-  answer_sound (Ok v) p is = λ u. subst (λ (x : Answer). IsSound ds program j x) is (rule_is_sound most ds program j rule u (program_commands program p))
+  pub answer_sound : (r : Result (Vec Premise Global) RuleError) → IsProgram program
+      → IsAnswer r (rule_answer most ds program j rule) → IfOk r
+      (λ v. IsUniversalHeap (antecedent j) → IsLocallySound ds program j v.items)
+  answer_sound (Ok v) p is = λ u. subst (λ (x : Answer). IsSound ds program j x) is
+      (rule_is_sound most ds program j rule u (program_commands program p))
   answer_sound (Err e) p is = tt
 
-  pub answer_sound_elsewhere : (r : Result (Vec Premise Global) RuleError) → IsAnswer r (rule_answer most ds program j rule) → IfOk r (λ v. (lines : List Command) → rule ≢ Exec → HasVariables lines (variables_of program j) j → IsUniversalHeap (antecedent j) → IsLocallySound ds lines j v.items)
-  answer_sound_elsewhere (Ok v) is = λ lines other h u. subst (λ (x : Answer). IsSound ds lines j x) is (elsewhere most ds program lines j rule other h u)
+  pub answer_sound_elsewhere : (r : Result (Vec Premise Global) RuleError)
+      → IsAnswer r (rule_answer most ds program j rule) → IfOk r
+      (λ v. (lines : List Command) → rule ≢ Exec → HasVariables lines (variables_of program j) j
+      → IsUniversalHeap (antecedent j) → IsLocallySound ds lines j v.items)
+  answer_sound_elsewhere (Ok v) is = λ lines other h u.
+      subst (λ (x : Answer). IsSound ds lines j x) is (elsewhere most ds program lines j rule other h u)
   answer_sound_elsewhere (Err e) is = tt
 
-  pub answer_keeps : (r : Result (Vec Premise Global) RuleError) → IsProgram program → IsAnswer r (rule_answer most ds program j rule) → IfOk r (λ v. IsUniversalHeap (antecedent j) → HasUniversalTerms rule → Each IsUniversalPremise v.items)
-  answer_keeps (Ok v) p is = λ u t. subst (λ (x : Answer). OnPremises IsUniversalPremise x) is (rule_keeps most ds program j rule u (program_commands program p) t)
+  pub answer_keeps : (r : Result (Vec Premise Global) RuleError) → IsProgram program
+      → IsAnswer r (rule_answer most ds program j rule) → IfOk r
+      (λ v. IsUniversalHeap (antecedent j) → HasUniversalTerms rule → Each IsUniversalPremise v.items)
+  answer_keeps (Ok v) p is = λ u t. subst (λ (x : Answer). OnPremises IsUniversalPremise x) is
+      (rule_keeps most ds program j rule u (program_commands program p) t)
   answer_keeps (Err e) p is = tt

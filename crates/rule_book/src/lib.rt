@@ -1,6 +1,9 @@
 //! The whole rule table as one call.
 #![tactic(auto)]
 
+pub mod limits;
+pub mod reasons;
+
 ghost use Rattle.std.specs.Prelude.{◌≡◌, ◌≢◌, IfOk, List, length};
 ghost use Rattle.heap_formula.specs.Closedness.{IsUniversalHeap};
 ghost use Rattle.heap_formula.specs.declared.commands.Command.{Command};

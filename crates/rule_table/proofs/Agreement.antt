@@ -1,5 +1,6 @@
 -- Stacks that agree below a number: by `holds_agrees` a stack may be changed at a number above all that occur.
-use Rattle.std.proofs.Common.{◌≡◌, ℕ, zero, suc, ◌+◌, ◌<◌, ◌≤◌, List, [], ◌∷◌, ◌++◌, length, refl, sym, ap, ◌∙◌, arith, map}
+use Rattle.std.proofs.Common.{◌≡◌, ℕ, zero, suc, ◌+◌, ◌<◌, ◌≤◌, List, [], ◌∷◌, ◌++◌, length, refl, sym, ap, ◌∙◌, arith}
+use Rattle.std.proofs.Common.{map}
 use Rattle.std.specs.Prelude.{slice_index}
 use Rattle.std.proofs.Math.ListN.{get_or-append}
 use Rattle.std.proofs.lemmas.List.{get_or-append-add}
@@ -36,13 +37,16 @@ spatial_below : (n : ℕ) (x : Spatial) → spatial_bound x ≤ n → InSpatial 
 spatial_below n (Cell t ts) h = (omega arith, terms_below n ts (omega arith))
 spatial_below n (Pred p ts) h = terms_below n ts h
 
-each_below : {X : Type 0} (n : ℕ) (f : X → ℕ) (P : X → Type 0) → ((x : X) → f x ≤ n → P x) → (xs : List X) → max_of (map f xs) ≤ n → Each P xs
+each_below : {X : Type 0} (n : ℕ) (f : X → ℕ) (P : X → Type 0) → ((x : X) → f x ≤ n → P x) → (xs : List X)
+    → max_of (map f xs) ≤ n → Each P xs
 each_below n f P g [] h = tt
 each_below n f P g (x ∷ xs) h = (g x (omega arith), each_below n f P g xs (omega arith))
 
 pub heap_below : (n : ℕ) (a : SymbolicHeap) → heap_bound a ≤ n → InHeap (IsBelow n) a
-heap_below n a h =
-    (each_below n pure_bound (InPure (IsBelow n)) (pure_below n) a.pure (omega arith), each_below n spatial_bound (InSpatial (IsBelow n)) (spatial_below n) a.spatial (omega arith))
+heap_below n a h = (
+  each_below n pure_bound (InPure (IsBelow n)) (pure_below n) a.pure (omega arith),
+  each_below n spatial_bound (InSpatial (IsBelow n)) (spatial_below n) a.spatial (omega arith),
+)
 
 abbrev pub Agrees : ℕ → Stack → Stack → Type 0
 Agrees n s s' = (i : ℕ) → i < n → slice_index s' i ≡ slice_index s i
@@ -50,7 +54,8 @@ Agrees n s s' = (i : ℕ) → i < n → slice_index s' i ≡ slice_index s i
 pub same_term : Term → Term
 same_term t = t
 
-pub value_agrees : (n : ℕ) (s s' e : Stack) → Agrees n s s' → (t : Term) → IsBelow n t → value s' e (same_term t) ≡ value s e t
+pub value_agrees : (n : ℕ) (s s' e : Stack) → Agrees n s s' → (t : Term) → IsBelow n t
+    → value s' e (same_term t) ≡ value s e t
 unfolding same_term
 value_agrees n s s' e g Nil h = refl
 value_agrees n s s' e g (Univ m) h = g m (omega arith)
@@ -78,12 +83,17 @@ in_spatial_same (Cell t ts) = λ i. Cell (same_term_is t i) (map_same same_term 
 in_spatial_same (Pred p ts) = λ i. Pred p (map_same same_term same_term_is ts i)
 
 in_heap_same : (a : SymbolicHeap) → in_heap same_term a ≡ a
-in_heap_same a = λ i. record { pure = map_same (in_pure same_term) in_pure_same a.pure i; spatial = map_same (in_spatial same_term) in_spatial_same a.spatial i }
+in_heap_same a = λ i. record {
+  pure = map_same (in_pure same_term) in_pure_same a.pure i;
+  spatial = map_same (in_spatial same_term) in_spatial_same a.spatial i;
+}
 
 -- a formula below n says the same under stacks that agree below n
-pub holds_agrees : (n : ℕ) (s s' e : Stack) → Agrees n s s' → (P : ℕ → Family) (a : SymbolicHeap) → InHeap (IsBelow n) a → (h : Cells) → Holds P s' e a h ≡ Holds P s e a h
+pub holds_agrees : (n : ℕ) (s s' e : Stack) → Agrees n s s' → (P : ℕ → Family) (a : SymbolicHeap) → InHeap (IsBelow n) a
+    → (h : Cells) → Holds P s' e a h ≡ Holds P s e a h
 holds_agrees n s s' e g P a q h =
-    ap (λ b. Holds P s' e b h) (sym (in_heap_same a)) ∙ holds_same (IsBelow n) same_term s' e s e (value_agrees n s s' e g) P a q h
+    ap (λ b. Holds P s' e b h) (sym (in_heap_same a))
+    ∙ holds_same (IsBelow n) same_term s' e s e (value_agrees n s s' e g) P a q h
 
 -- ---- a stack that is continued
 

@@ -4,7 +4,9 @@ use Rattle.heap_formula.specs.declared.commands.Command.{Command}
 use Rattle.heap_formula.specs.declared.judgements.Judgement.{Judgement}
 use Rattle.heap_formula.specs.declared.judgements.Judgement.TheVariants.{Entail, Term as Runs}
 use Rattle.heap_formula.specs.declared.proof_rules.Rule.{Rule}
-use Rattle.heap_formula.specs.declared.proof_rules.Rule.TheVariants.{Absurd, Rewrite, Split, Distinct, Weaken, Unfold, Cut, Done, Choose, PureRight, Instantiate, Frame, UnfoldRight, Exec, Drop}
+use Rattle.heap_formula.specs.declared.proof_rules.Rule.TheVariants.{Absurd, Rewrite, Split, Distinct, Weaken, Unfold}
+use Rattle.heap_formula.specs.declared.proof_rules.Rule.TheVariants.{Cut, Done, Choose, PureRight, Instantiate, Frame}
+use Rattle.heap_formula.specs.declared.proof_rules.Rule.TheVariants.{UnfoldRight, Exec, Drop}
 use Rattle.heap_formula.specs.Definitions.{Definition}
 use Rattle.heap_formula.specs.Words.{Each}
 use Rattle.heap_formula.specs.Closedness.{IsUniversalHeap}
@@ -12,22 +14,27 @@ use Rattle.heap_formula.specs.Programs.{program_variables}
 use Rattle.heap_formula.specs.Judgements.{antecedent}
 use Rattle.rule_table.specs.RuleBook.{variables_of, rule_answer}
 use Rattle.rule_table.specs.Soundness.{IsSound, IsCommand, HasVariables}
-use Rattle.rule_table.proofs.LeftRules.{absurd_is_sound, rewrite_is_sound, split_is_sound, distinct_is_sound, weaken_is_sound, unfold_is_sound, cut_is_sound, drop_is_sound}
-use Rattle.rule_table.proofs.RightRules.{done_is_sound, choose_is_sound, pure_right_is_sound, instantiate_is_sound, frame_is_sound, unfold_right_is_sound}
+use Rattle.rule_table.proofs.LeftRules.{absurd_is_sound, rewrite_is_sound, split_is_sound, distinct_is_sound}
+use Rattle.rule_table.proofs.LeftRules.{weaken_is_sound, unfold_is_sound, cut_is_sound, drop_is_sound}
+use Rattle.rule_table.proofs.RightRules.{done_is_sound, choose_is_sound, pure_right_is_sound, instantiate_is_sound}
+use Rattle.rule_table.proofs.RightRules.{frame_is_sound, unfold_right_is_sound}
 use Rattle.rule_table.proofs.Commands.{exec_is_sound}
 
 pub has_variables : (lines : List Command) (j : Judgement) → HasVariables lines (variables_of lines j) j
 has_variables lines (Entail a bs) = tt
 has_variables lines (Runs i a) = let le : program_variables lines ≤ program_variables lines = omega arith in le
 
-pub rule_is_sound : (most : ℕ) (ds : List Definition) (lines : List Command) (j : Judgement) (rule : Rule) → IsUniversalHeap (antecedent j) → Each IsCommand lines → IsSound ds lines j (rule_answer most ds lines j rule)
+pub rule_is_sound : (most : ℕ) (ds : List Definition) (lines : List Command) (j : Judgement) (rule : Rule)
+    → IsUniversalHeap (antecedent j) → Each IsCommand lines → IsSound ds lines j (rule_answer most ds lines j rule)
 rule_is_sound most ds lines j Absurd u c = absurd_is_sound ds lines j
 rule_is_sound most ds lines j (Rewrite k side) u c = rewrite_is_sound ds lines (variables_of lines j) j k side u
 rule_is_sound most ds lines j (Split t v) u c = split_is_sound ds lines j t v
 rule_is_sound most ds lines j (Distinct i k) u c = distinct_is_sound ds lines j i k
 rule_is_sound most ds lines j (Weaken k) u c = weaken_is_sound ds lines j k
-rule_is_sound most ds lines j (Unfold k) u c = unfold_is_sound ds lines most (variables_of lines j) j k (has_variables lines j)
-rule_is_sound most ds lines j (Cut places f) u c = cut_is_sound ds lines most (variables_of lines j) j places f (has_variables lines j)
+rule_is_sound most ds lines j (Unfold k) u c = unfold_is_sound ds lines most (variables_of lines j) j k
+    (has_variables lines j)
+rule_is_sound most ds lines j (Cut places f) u c = cut_is_sound ds lines most (variables_of lines j) j places f
+    (has_variables lines j)
 rule_is_sound most ds lines j Done u c = done_is_sound ds lines j
 rule_is_sound most ds lines j (Choose k) u c = choose_is_sound ds lines j k
 rule_is_sound most ds lines j (PureRight k) u c = pure_right_is_sound ds lines j k

@@ -1,5 +1,6 @@
 -- The cells of a spatial list stand in each heap of which it holds, and no two at one address.
-use Rattle.std.proofs.Common.{◌≡◌, ◌≢◌, ℕ, zero, suc, ◌<◌, true, ◌||◌, List, [], ◌∷◌, Option, Some, None, refl, sym, ap, ◌∙◌, subst, inl, inr, arith}
+use Rattle.std.proofs.Common.{◌≡◌, ◌≢◌, ℕ, zero, suc, ◌<◌, true, ◌||◌, List, [], ◌∷◌, Option, Some, None, refl, sym, ap}
+use Rattle.std.proofs.Common.{◌∙◌, subst, inl, inr, arith}
 use Rattle.std.specs.Prelude.{slice_get}
 use Rattle.heap_formula.specs.declared.terms.Term.{Term}
 use Rattle.heap_formula.specs.declared.terms.Term.TheVariants.{Nil}
@@ -39,7 +40,8 @@ left_has {l = l} {r = r} {h = h} a vs u e = joins_left (cell_at l a) (cell_at r 
 pub right_has : {l r h : Cells} (a : ℕ) (vs : List ℕ) → IsUnion l r h → cell_at r a ≡ Some vs → cell_at h a ≡ Some vs
 right_has {l = l} {r = r} {h = h} a vs u e = joins_right (cell_at l a) (cell_at r a) (cell_at h a) vs (u.joins a) e
 
-pub not_both_have : {l r h : Cells} (a : ℕ) (vs ws : List ℕ) → IsUnion l r h → cell_at l a ≡ Some vs → cell_at r a ≡ Some ws → ⊥
+pub not_both_have : {l r h : Cells} (a : ℕ) (vs ws : List ℕ) → IsUnion l r h → cell_at l a ≡ Some vs
+    → cell_at r a ≡ Some ws → ⊥
 not_both_have {l = l} {r = r} {h = h} a vs ws u e f =
     joins_not_both (cell_at l a) (cell_at r a) (cell_at h a) vs ws (u.joins a) e f
 
@@ -54,7 +56,8 @@ module _ (s e : Stack) where
     pub has : cell_at h (value s e t) ≡ Some (values s e ts)
     pub positive : 0 < value s e t
 
-  pub cell_there : (P : ℕ → Family) (xs : List Spatial) (k : ℕ) (t : Term) (ts : List Term) (h : Cells) → slice_get xs k ≡ Some (Cell t ts) → SpatialHolds P s e xs h → HasCell t ts h
+  pub cell_there : (P : ℕ → Family) (xs : List Spatial) (k : ℕ) (t : Term) (ts : List Term) (h : Cells)
+      → slice_get xs k ≡ Some (Cell t ts) → SpatialHolds P s e xs h → HasCell t ts h
   cell_there P [] k t ts h at a = cc
   cell_there P (x ∷ xs) zero t ts h at a =
       let same : x ≡ Cell t ts = cc in
@@ -64,14 +67,18 @@ module _ (s e : Stack) where
       let r = cell_there (λ m. P (suc m)) xs k t ts a.rest at a.others in
       record { has = right_has (value s e t) (values s e ts) a.union r.has; positive = r.positive }
 
-  head_cell : (P : ℕ → Family) (x : Spatial) (xs : List Spatial) (k : ℕ) (t u : Term) (ts us : List Term) (h : Cells) → x ≡ Cell t ts → slice_get xs k ≡ Some (Cell u us) → SpatialHolds P s e (x ∷ xs) h → value s e t ≢ value s e u
+  head_cell : (P : ℕ → Family) (x : Spatial) (xs : List Spatial) (k : ℕ) (t u : Term) (ts us : List Term) (h : Cells)
+      → x ≡ Cell t ts → slice_get xs k ≡ Some (Cell u us) → SpatialHolds P s e (x ∷ xs) h → value s e t ≢ value s e u
   head_cell P x xs k t u ts us h is at a same =
       let c : IsCell (value s e t) (values s e ts) a.part = subst (λ y. AtomHolds (P 0) s e y a.part) is a.first in
       let r = cell_there (λ m. P (suc m)) xs k u us a.rest at a.others in
-      not_both_have (value s e t) (values s e ts) (values s e us) a.union (is_cell_has _ _ a.part c) (ap (cell_at a.rest) same ∙ r.has)
+      not_both_have (value s e t) (values s e ts) (values s e us) a.union (is_cell_has _ _ a.part c)
+      (ap (cell_at a.rest) same ∙ r.has)
 
   -- cells at two places have two addresses
-  pub apart : (P : ℕ → Family) (xs : List Spatial) (i k : ℕ) (t u : Term) (ts us : List Term) (h : Cells) → slice_get xs i ≡ Some (Cell t ts) → slice_get xs k ≡ Some (Cell u us) → i ≢ k → SpatialHolds P s e xs h → value s e t ≢ value s e u
+  pub apart : (P : ℕ → Family) (xs : List Spatial) (i k : ℕ) (t u : Term) (ts us : List Term) (h : Cells)
+      → slice_get xs i ≡ Some (Cell t ts) → slice_get xs k ≡ Some (Cell u us) → i ≢ k → SpatialHolds P s e xs h
+      → value s e t ≢ value s e u
   apart P [] i k t u ts us h at_i at_k ne a = cc
   apart P (x ∷ xs) zero zero t u ts us h at_i at_k ne a = absurd (ne refl)
   apart P (x ∷ xs) zero (suc k) t u ts us h at_i at_k ne a =
@@ -95,7 +102,8 @@ module _ (s e : Stack) where
       here (Eq t u) h a = cc
       here (Neq t u) h a = a (ap (value s e) (same_term_is t u h))
 
-  cell_found : (u : Term) (xs : List Spatial) → some_cell_at u xs ≡ true → (k : ℕ) × (us : List Term) × (slice_get xs k ≡ Some (Cell u us))
+  cell_found : (u : Term) (xs : List Spatial) → some_cell_at u xs ≡ true
+      → (k : ℕ) × (us : List Term) × (slice_get xs k ≡ Some (Cell u us))
   cell_found u [] c = cc
   cell_found u (Cell t ts ∷ xs) c =
       elim (either (same_term t u) (some_cell_at u xs) c) [
@@ -113,7 +121,8 @@ module _ (s e : Stack) where
         | inr r ↦ no_two_cells (λ m. P (suc m)) xs a.rest r a.others
       ]
 
-  no_cell_at_nil : (P : ℕ → Family) (xs : List Spatial) (h : Cells) → some_cell_at Nil xs ≡ true → SpatialHolds P s e xs h → ⊥
+  no_cell_at_nil : (P : ℕ → Family) (xs : List Spatial) (h : Cells) → some_cell_at Nil xs ≡ true
+      → SpatialHolds P s e xs h → ⊥
   no_cell_at_nil P xs h c a =
       let f = cell_found Nil xs c in
       let g = cell_there P xs f.0 Nil f.1 h f.2 a in

@@ -6,7 +6,8 @@ use Rattle.heap_formula.specs.declared.judgements.Premise.{Premise}
 use Rattle.rule_table.specs.Fits.{OnPremises}
 use Rattle.rule_table.specs.Table.{are_empty}
 
-pub empty_on : (P : Premise → Type 0) (xs : List Spatial) (ps : List Pure) (ys : List Spatial) → OnPremises P (are_empty xs ps ys)
+pub empty_on : (P : Premise → Type 0) (xs : List Spatial) (ps : List Pure) (ys : List Spatial)
+    → OnPremises P (are_empty xs ps ys)
 empty_on P [] [] [] = tt
 empty_on P [] [] (y ∷ ys) = tt
 empty_on P [] (p ∷ ps) ys = tt

@@ -42,11 +42,16 @@ runs_on zero h = cc
 runs_on (suc n) (inl h) = cc
 runs_on (suc n) (inr r) =
     let is : New 0 0 ≡ r.0 = (let e = r.1 in cc) in
-    let pick : MayPick 1 (start_at lines 1 [] no_cells) 0 1 [] = record { positive = omega arith; within = omega arith; free = get-empty nat_cmp 1; count = refl; values_within = tt } in
+    let pick : MayPick 1 (start_at lines 1 [] no_cells) 0 1 [] = record
+    { positive = omega arith; within = omega arith; free = get-empty nat_cmp 1; count = refl; values_within = tt }
+    in
     let way : Goes (New 0 0) 1 (start_at lines 1 [] no_cells) picked = (1, [], pick, refl) in
     stuck n (r.3 picked (subst (λ (x : Command). Goes x 1 (start_at lines 1 [] no_cells) picked) is way))
 
 pub new_zero_is_unsound : IsLocallySound [] lines (Runs 1 emp) (one premise) → ⊥
 new_zero_is_unsound sound =
-    let r = sound (λ _. 0) ((λ below follows s h o w pos g part. absurd (let c : 0 < 0 = o.1.1.first.1 in omega arith)), tt) [] no_cells ([], (tt, refl)) 1 (omega arith) no_cells (no_cells, empty_union no_cells) in
+    let r = sound (λ _. 0) (
+      (λ below follows s h o w pos g part. absurd (let c : 0 < 0 = o.1.1.first.1 in omega arith)),
+      tt,
+    ) [] no_cells ([], (tt, refl)) 1 (omega arith) no_cells (no_cells, empty_union no_cells) in
     runs_on r.0 r.1

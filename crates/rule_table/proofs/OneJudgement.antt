@@ -10,13 +10,14 @@ use Rattle.heap_formula.specs.Symbolic.{SymbolicHeap}
 use Rattle.rule_table.specs.Tests.{same_pure, same_spatial}
 use Rattle.rule_table.specs.Judgements.{same_heap, same_judgement}
 use Rattle.rule_table.proofs.Reflects.{same_pure_is, same_spatial_is}
-use Rattle.list_facts.proofs.Tests.{pointwise_is}
+use Rattle.cyc_basics.proofs.Tests.{pointwise_is}
 
 same_heap_is : (a b : SymbolicHeap) → same_heap a b ≡ true → a ≡ b
 same_heap_is a b e =
     let t = and_parts (pointwise same_pure a.pure b.pure) (pointwise same_spatial a.spatial b.spatial) e in
     let p = pointwise_is same_pure same_pure_is a.pure b.pure t.0 in
-    let s = pointwise_is same_spatial same_spatial_is a.spatial b.spatial t.1 in λ i. record { pure = p i; spatial = s i }
+    let s = pointwise_is same_spatial same_spatial_is a.spatial b.spatial t.1 in
+    λ i. record { pure = p i; spatial = s i }
 
 pub same_judgement_is : (j k : Judgement) → same_judgement j k ≡ true → j ≡ k
 same_judgement_is (Entail a bs) (Entail b cs) e =

@@ -11,10 +11,11 @@ use Rattle.heap_formula.specs.declared.atoms.Spatial.TheVariants.{Cell, Pred}
 use Rattle.heap_formula.specs.Words.{Each}
 use Rattle.heap_formula.specs.Closedness.{InPure, IsUniversal, IsUniversalSpatial}
 use Rattle.rule_table.specs.RuleLink.{EachPair, mirror_pure, HasPure, FollowsFrom, AreEquated, IsMatch}
-use Rattle.rule_table.specs.Tests.{same_term, same_terms, same_pure, same_spatial, is_universal, are_universal, is_universal_pure, is_universal_spatial, has_pure, is_trivial, follows, equated}
+use Rattle.rule_table.specs.Tests.{same_term, same_terms, same_pure, same_spatial, is_universal, are_universal}
+use Rattle.rule_table.specs.Tests.{is_universal_pure, is_universal_spatial, has_pure, is_trivial, follows, equated}
 use Rattle.rule_table.specs.LinkTable.{all_equated, matches}
 use Rattle.std.proofs.lemmas.Bool.{and_from, and_parts}
-use Rattle.list_facts.proofs.Tests.{bool_same}
+use Rattle.cyc_basics.proofs.Tests.{bool_same}
 
 pub either : (p q : Bool) → p || q ≡ true → (p ≡ true) ⊎ (q ≡ true)
 either true q e = inl refl
@@ -48,9 +49,11 @@ same_pure_is (Neq t u) (Eq v w) e = cc
 
 pub same_spatial_is : (x y : Spatial) → same_spatial x y ≡ true → x ≡ y
 same_spatial_is (Cell t ts) (Cell u us) e =
-    let b = and_parts (same_term t u) (same_terms ts us) e in λ i. Cell (same_term_is t u b.0 i) (same_terms_are ts us b.1 i)
+    let b = and_parts (same_term t u) (same_terms ts us) e in
+    λ i. Cell (same_term_is t u b.0 i) (same_terms_are ts us b.1 i)
 same_spatial_is (Pred p ts) (Pred q us) e =
-    let b = and_parts (nat_eq p q) (same_terms ts us) e in λ i. Pred ((Decides-eqb p q).0 b.0 i) (same_terms_are ts us b.1 i)
+    let b = and_parts (nat_eq p q) (same_terms ts us) e in
+    λ i. Pred ((Decides-eqb p q).0 b.0 i) (same_terms_are ts us b.1 i)
 same_spatial_is (Cell t ts) (Pred q us) e = cc
 same_spatial_is (Pred p ts) (Cell u us) e = cc
 
@@ -65,8 +68,10 @@ universals_are (t ∷ ts) e =
     let b = and_parts (is_universal t) (are_universal ts) e in (universal_is t b.0, universals_are ts b.1)
 
 pub universal_pure_is : (x : Pure) → is_universal_pure x ≡ true → InPure IsUniversal x
-universal_pure_is (Eq t u) e = let b = and_parts (is_universal t) (is_universal u) e in (universal_is t b.0, universal_is u b.1)
-universal_pure_is (Neq t u) e = let b = and_parts (is_universal t) (is_universal u) e in (universal_is t b.0, universal_is u b.1)
+universal_pure_is (Eq t u) e = let b = and_parts (is_universal t) (is_universal u) e in
+    (universal_is t b.0, universal_is u b.1)
+universal_pure_is (Neq t u) e = let b = and_parts (is_universal t) (is_universal u) e in
+    (universal_is t b.0, universal_is u b.1)
 
 pub universal_spatial_is : (x : Spatial) → is_universal_spatial x ≡ true → IsUniversalSpatial x
 universal_spatial_is (Cell t ts) e =
@@ -102,7 +107,8 @@ equated_is pures t u e =
       | inr r ↦ inr (has_pure_is pures (Eq t u) r)
     ]
 
-pub all_equated_are : (pures : List Pure) (ts us : List Term) → all_equated pures ts us ≡ true → EachPair (AreEquated pures) ts us
+pub all_equated_are : (pures : List Pure) (ts us : List Term) → all_equated pures ts us ≡ true
+    → EachPair (AreEquated pures) ts us
 all_equated_are pures [] [] e = tt
 all_equated_are pures [] (u ∷ us) e = cc
 all_equated_are pures (t ∷ ts) [] e = cc
@@ -140,4 +146,5 @@ same_spatial_self (Pred p ts) = and_from (nat_eq p p) (same_terms ts ts) (nat_it
 
 pub decided_spatial : (r : Bool) (x y : Spatial) → ((r ≡ true) ↔ (x ≡ y)) → r ≡ same_spatial x y
 decided_spatial r x y d =
-    bool_same r (same_spatial x y) (λ e. subst (λ z. same_spatial x z ≡ true) (d.0 e) (same_spatial_self x)) (λ e. d.1 (same_spatial_is x y e))
+    bool_same r (same_spatial x y) (λ e. subst (λ z. same_spatial x z ≡ true) (d.0 e) (same_spatial_self x))
+    (λ e. d.1 (same_spatial_is x y e))

@@ -12,11 +12,14 @@ use Rattle.rule_table.specs.Table.{rewritten}
 -- $0 = ?0 : emp |- $0 = nil : emp
 abbrev claim : Judgement
 claim =
-    Entail (record { pure = Eq (Univ 0) (Exist 0) ∷ []; spatial = [] }) (record { pure = Eq (Univ 0) Nil ∷ []; spatial = [] } ∷ [])
+    Entail (record { pure = Eq (Univ 0) (Exist 0) ∷ []; spatial = [] })
+    (record { pure = Eq (Univ 0) Nil ∷ []; spatial = [] } ∷ [])
 
-pub rewrite_needs_universals : IsLocallySound [] [] claim (one (rewritten 0 claim 0 (Eq (Univ 0) (Exist 0)) 0 (Exist 0))) → ⊥
+pub rewrite_needs_universals : IsLocallySound [] [] claim
+    (one (rewritten 0 claim 0 (Eq (Univ 0) (Exist 0)) 0 (Exist 0))) → ⊥
 rewrite_needs_universals sound =
-    elim (sound (λ _. 0) ((λ below follows s h o. inl ((λ _. 0), (0 ∷ [], ((refl, tt), o.1.1)))), tt) (1 ∷ []) no_cells (1 ∷ [], ((refl, tt), refl))) [
+    elim (sound (λ _. 0) ((λ below follows s h o. inl ((λ _. 0), (0 ∷ [], ((refl, tt), o.1.1)))), tt) (1 ∷ []) no_cells
+    (1 ∷ [], ((refl, tt), refl))) [
       | inl t ↦ let e : ◌≡◌ {A = ℕ} 1 0 = t.1.1.0.0 in cc
       | inr bad ↦ bad
     ]

@@ -14,7 +14,7 @@ use Rattle.heap_formula.specs.Values.{Stack, value}
 use Rattle.heap_formula.specs.Positions.{without}
 use Rattle.heap_formula.specs.Closedness.{InPure, InSpatial, InHeap}
 use Rattle.heap_formula.specs.Substitution.{apply_term}
-use Rattle.formula_facts.proofs.AllMembers.{each_any}
+use Rattle.heap_formula.proofs.AllMembers.{each_any}
 
 abbrev pub AnyTerm : Term → Type 0
 AnyTerm _ = Unit {0}
@@ -39,12 +39,14 @@ Each-without P [] k e = tt
 Each-without P (x ∷ xs) zero e = e.1
 Each-without P (x ∷ xs) (suc k) e = (e.0, Each-without P xs k e.1)
 
-one_pair : (b : Bool) (s e : Stack) (n v : ℕ) (u : Term) → nat_eq n v ≡ b → value s e u ≡ slice_index s v → value s e (cond b u (Univ n)) ≡ slice_index s n
+one_pair : (b : Bool) (s e : Stack) (n v : ℕ) (u : Term) → nat_eq n v ≡ b → value s e u ≡ slice_index s v
+    → value s e (cond b u (Univ n)) ≡ slice_index s n
 one_pair true s e n v u test same = same ∙ ap (slice_index s) (sym ((Decides-eqb n v).0 test))
 one_pair false s e n v u test same = refl
 
 -- a variable and a term that have one value
-pub value_replaced : (s e : Stack) (v : ℕ) (u : Term) → value s e u ≡ slice_index s v → (t : Term) → AnyTerm t → value s e (apply_term ((v, u) ∷ []) t) ≡ value s e t
+pub value_replaced : (s e : Stack) (v : ℕ) (u : Term) → value s e u ≡ slice_index s v → (t : Term) → AnyTerm t
+    → value s e (apply_term ((v, u) ∷ []) t) ≡ value s e t
 value_replaced s e v u same Nil q = refl
 value_replaced s e v u same (Exist n) q = refl
 value_replaced s e v u same (Univ n) q = one_pair (nat_eq n v) s e n v u refl same

@@ -1,5 +1,6 @@
 -- Runs that halt, and the premise of Exec at `new`.
-use Rattle.std.proofs.Common.{◌≡◌, ℕ, zero, suc, ◌+◌, ◌<◌, ◌≤◌, ◌⊎◌, List, length, Option, Some, None, refl, sym, subst, arith, inl, inr}
+use Rattle.std.proofs.Common.{◌≡◌, ℕ, zero, suc, ◌+◌, ◌<◌, ◌≤◌, ◌⊎◌, List, length, Option, Some, None, refl, sym, subst}
+use Rattle.std.proofs.Common.{arith, inl, inr}
 use Rattle.std.specs.Prelude.{slice_set}
 use Rattle.std.specs.FinMap.{insert}
 use Rattle.heap_formula.specs.declared.commands.Command.{Command}
@@ -22,18 +23,22 @@ module _ (lines : List Command) (w : ℕ) where
       subst (λ m. Halts lines w m c) e (halts_next (n + k) c (halts_more n k c h))
 
   -- a command that leads to one state
-  pub one_way : (x : Command) (c d : Config) → command_at lines c ≡ Some x → (¬ Faults x c) → ((e : Config) → Goes x w c e → e ≡ d) → (n : ℕ) × Halts lines w n d → (n : ℕ) × Halts lines w n c
+  pub one_way : (x : Command) (c d : Config) → command_at lines c ≡ Some x → (¬ Faults x c)
+      → ((e : Config) → Goes x w c e → e ≡ d) → (n : ℕ) × Halts lines w n d → (n : ℕ) × Halts lines w n c
   one_way x c d at nf only r = (suc r.0, inr (x, at, nf, λ e g. subst (Halts lines w r.0) (sym (only e g)) r.1))
 
   -- a command that leads to two states
-  pub two_ways : (x : Command) (c d e : Config) → command_at lines c ≡ Some x → (¬ Faults x c) → ((f : Config) → Goes x w c f → (f ≡ d) ⊎ (f ≡ e)) → (n : ℕ) × Halts lines w n d → (n : ℕ) × Halts lines w n e → (n : ℕ) × Halts lines w n c
+  pub two_ways : (x : Command) (c d e : Config) → command_at lines c ≡ Some x → (¬ Faults x c)
+      → ((f : Config) → Goes x w c f → (f ≡ d) ⊎ (f ≡ e)) → (n : ℕ) × Halts lines w n d → (n : ℕ) × Halts lines w n e
+      → (n : ℕ) × Halts lines w n c
   two_ways x c d e at nf only p q = (suc (p.0 + q.0), inr (x, at, nf, λ f g. halts f (only f g)))
     where
       halts : (f : Config) → (f ≡ d) ⊎ (f ≡ e) → Halts lines w (p.0 + q.0) f
       halts f (inl same) = subst (Halts lines w (p.0 + q.0)) (sym same) (halts_more p.0 q.0 d p.1)
       halts f (inr same) =
           let either : q.0 + p.0 ≡ p.0 + q.0 = omega arith in
-          subst (Halts lines w (p.0 + q.0)) (sym same) (subst (λ n. Halts lines w n e) either (halts_more q.0 p.0 e q.1))
+          subst (Halts lines w (p.0 + q.0)) (sym same)
+          (subst (λ n. Halts lines w n e) either (halts_more q.0 p.0 e q.1))
 
   -- where `new` leads
   abbrev picked : ℕ → Config → ℕ → List ℕ → Config
@@ -42,22 +47,32 @@ module _ (lines : List Command) (w : ℕ) where
   abbrev HaltsIfFree : ℕ → Config → ℕ → List ℕ → ℕ → Type 0
   HaltsIfFree x c a vs n = 0 < a → cell_at c.heap a ≡ None → Halts lines w n (picked x c a vs)
 
-  if_free : (x : ℕ) (c : Config) (a : ℕ) (vs : List ℕ) → (o : Option (List ℕ)) → cell_at c.heap a ≡ o → (0 < a → cell_at c.heap a ≡ None → (n : ℕ) × Halts lines w n (picked x c a vs)) → (n : ℕ) × HaltsIfFree x c a vs n
+  if_free : (x : ℕ) (c : Config) (a : ℕ) (vs : List ℕ) → (o : Option (List ℕ)) → cell_at c.heap a ≡ o
+      → (0 < a → cell_at c.heap a ≡ None → (n : ℕ) × Halts lines w n (picked x c a vs))
+      → (n : ℕ) × HaltsIfFree x c a vs n
   if_free x c zero vs o e f = (0, λ pos free. absurd (omega arith))
   if_free x c (suc a) vs (Some us) e f = (0, λ pos free. cc)
   if_free x c (suc a) vs None e f = let r = f (omega arith) e in (r.0, λ pos free. r.1)
 
   -- `new` halts where it halts after each pick
-  pub new_way : (x k : ℕ) (c : Config) → command_at lines c ≡ Some (New x k) → ((a : ℕ) (vs : List ℕ) → MayPick w c k a vs → (n : ℕ) × Halts lines w n (picked x c a vs)) → (n : ℕ) × Halts lines w n c
+  pub new_way : (x k : ℕ) (c : Config) → command_at lines c ≡ Some (New x k)
+      → ((a : ℕ) (vs : List ℕ) → MayPick w c k a vs → (n : ℕ) × Halts lines w n (picked x c a vs))
+      → (n : ℕ) × Halts lines w n c
   new_way x k c at f =
       let m = greatest c + w in
-      let r = one_bound (λ a n. (vs : List ℕ) → length vs ≡ k → Each (λ v. v ≤ m) vs → HaltsIfFree x c a vs n) (λ a n j g vs e q pos free. halts_more n j (picked x c a vs) (g vs e q pos free)) m (λ a le. list_bound (λ vs n. HaltsIfFree x c a vs n) (λ vs n j g pos free. halts_more n j (picked x c a vs) (g pos free)) k m (λ vs e q. if_free x c a vs (cell_at c.heap a) refl (λ pos free. f a vs (record { positive = pos; within = le; free = free; count = e; values_within = q })))) in (
+      let r = one_bound (λ a n. (vs : List ℕ) → length vs ≡ k → Each (λ v. v ≤ m) vs → HaltsIfFree x c a vs n)
+      (λ a n j g vs e q pos free. halts_more n j (picked x c a vs) (g vs e q pos free)) m
+      (λ a le. list_bound (λ vs n. HaltsIfFree x c a vs n)
+      (λ vs n j g pos free. halts_more n j (picked x c a vs) (g pos free)) k m
+      (λ vs e q. if_free x c a vs (cell_at c.heap a) refl
+      (λ pos free. f a vs (record { positive = pos; within = le; free = free; count = e; values_within = q })))) in (
         suc r.0,
         inr (
           New x k,
           at,
           λ bad. bad,
           λ d g.
-              let p = g.2 in subst (Halts lines w r.0) (sym g.3) (r.1 g.0 p.within g.1 p.count p.values_within p.positive p.free),
+              let p = g.2 in subst (Halts lines w r.0) (sym g.3)
+              (r.1 g.0 p.within g.1 p.count p.values_within p.positive p.free),
         ),
       )

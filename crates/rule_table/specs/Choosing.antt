@@ -16,7 +16,8 @@ abbrev pub chosen_pairs : (ℕ → Bool) → ℕ → ℕ → List Spatial → Li
 chosen_pairs p i n [] = []
 chosen_pairs p i n (Cell t ts ∷ xs) = if p i then chosen_pairs p (suc i) (suc n) xs else chosen_pairs p (suc i) n xs
 chosen_pairs p i n (Pred q ts ∷ xs) =
-    if p i then record { old = i; new = n; progress = false } ∷ chosen_pairs p (suc i) (suc n) xs else chosen_pairs p (suc i) n xs
+    if p i then record { old = i; new = n; progress = false }
+    ∷ chosen_pairs p (suc i) (suc n) xs else chosen_pairs p (suc i) n xs
 
 -- the places of the list, or the others
 abbrev pub taken : Bool → List ℕ → ℕ → Bool

@@ -7,7 +7,8 @@ use Rattle.heap_formula.specs.declared.atoms.Pure.TheVariants.{Eq, Neq}
 use Rattle.heap_formula.specs.declared.atoms.Spatial.{Spatial}
 use Rattle.heap_formula.specs.declared.atoms.Spatial.TheVariants.{Cell, Pred}
 use Rattle.heap_formula.specs.declared.commands.Command.{Command}
-use Rattle.heap_formula.specs.declared.commands.Command.TheVariants.{Assign, Load, Store, New, Free, IfEq, IfNeq, IfAny, Goto, Stop}
+use Rattle.heap_formula.specs.declared.commands.Command.TheVariants.{Assign, Load, Store, New, Free, IfEq, IfNeq, IfAny}
+use Rattle.heap_formula.specs.declared.commands.Command.TheVariants.{Goto, Stop}
 use Rattle.heap_formula.specs.declared.judgements.Judgement.{Judgement}
 use Rattle.heap_formula.specs.declared.judgements.Judgement.TheVariants.{Term as Runs}
 use Rattle.heap_formula.specs.declared.judgements.Premise.{Premise}
@@ -87,7 +88,10 @@ command_answer most i a n (New x k) =
     limited most (one (at_line (i + 1) a (with_cell (renamed x n a) x (variables_from (n + 1) k))))
 command_answer most i a n (Free t) =
     finds (cell_of a.pure t a.spatial) NoCell (λ c.
-    limited most (one (record { judgement = Runs (i + 1) (without_spatial c.place a); pairs = kept_pairs c.place a.spatial })))
+    limited most (one (record {
+      judgement = Runs (i + 1) (without_spatial c.place a);
+      pairs = kept_pairs c.place a.spatial;
+    })))
 
 -- the caller has a line of the program: the fault where there is none is never met
 abbrev pub exec_answer : ℕ → List Command → Judgement → Answer

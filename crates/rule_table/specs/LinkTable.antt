@@ -1,5 +1,6 @@
 -- Link: the first fault, and the premise with its trace pairs.
-use Rattle.std.specs.Prelude.{ℕ, zero, suc, List, [], ◌∷◌, ◌++◌, map, length, Bool, true, false, ◌&&◌, not, nat_eq, nat_le, cond, Option, Some, None, slice_get, slice_index}
+use Rattle.std.specs.Prelude.{ℕ, zero, suc, List, [], ◌∷◌, ◌++◌, map, length, Bool, true, false, ◌&&◌, not, nat_eq}
+use Rattle.std.specs.Prelude.{nat_le, cond, Option, Some, None, slice_get, slice_index}
 use Rattle.heap_formula.specs.declared.terms.Term.{Term}
 use Rattle.heap_formula.specs.declared.terms.Term.TheVariants.{Univ}
 use Rattle.heap_formula.specs.declared.atoms.Pure.{Pure}
@@ -10,7 +11,9 @@ use Rattle.heap_formula.specs.declared.judgements.Judgement.TheVariants.{Entail,
 use Rattle.heap_formula.specs.declared.judgements.Premise.{Premise}
 use Rattle.heap_formula.specs.declared.proof_rules.Link.{Link}
 use Rattle.heap_formula.specs.declared.proof_rules.RuleFault.{RuleFault}
-use Rattle.heap_formula.specs.declared.proof_rules.RuleFault.TheVariants.{WrongJudgement, LineDiffers, LinkProgramVariable, LinkPure, LinkSpatial, LinkDisjunct}
+use Rattle.heap_formula.specs.declared.proof_rules.RuleFault.TheVariants.{WrongJudgement, LineDiffers}
+use Rattle.heap_formula.specs.declared.proof_rules.RuleFault.TheVariants.{LinkProgramVariable, LinkPure, LinkSpatial}
+use Rattle.heap_formula.specs.declared.proof_rules.RuleFault.TheVariants.{LinkDisjunct}
 use Rattle.heap_formula.specs.Symbolic.{SymbolicHeap}
 use Rattle.heap_formula.specs.Positions.{pairs_from}
 use Rattle.heap_formula.specs.Judgements.{antecedent}
@@ -64,7 +67,8 @@ spatial_fault pures atoms whole seen k [] [] = fault_unless whole (LinkSpatial k
 spatial_fault pures atoms whole seen k (m ∷ ms) [] = Some (LinkSpatial k)
 spatial_fault pures atoms whole seen k [] (x ∷ xs) = Some (LinkSpatial k)
 spatial_fault pures atoms whole seen k (m ∷ ms) (x ∷ xs) =
-    cond (not (has_number seen m) && matches_some pures x (slice_get atoms m)) (spatial_fault pures atoms whole (seen ++ m ∷ []) (suc k) ms xs) (Some (LinkSpatial k))
+    cond (not (has_number seen m) && matches_some pures x (slice_get atoms m))
+    (spatial_fault pures atoms whole (seen ++ m ∷ []) (suc k) ms xs) (Some (LinkSpatial k))
 
 -- each atom of the list stands as often in xs as in ys
 abbrev pub counts_agree : List Spatial → List Spatial → List Spatial → Bool
@@ -94,9 +98,12 @@ disjunct_fault bs k (m ∷ ms) (c ∷ cs) =
     cond (covers_some c (slice_get bs m)) (disjunct_fault bs (suc k) ms cs) (Some (LinkDisjunct k))
 
 -- the bud's antecedent and disjuncts, and the companion's
-abbrev pub parts_fault : SymbolicHeap → List SymbolicHeap → SymbolicHeap → List SymbolicHeap → Bool → Link → Option RuleFault
+abbrev pub parts_fault : SymbolicHeap → List SymbolicHeap → SymbolicHeap → List SymbolicHeap → Bool → Link
+    → Option RuleFault
 parts_fault a bs b cs whole link =
-    first_of (pure_fault a.pure 0 (map (apply_pure link.subst) b.pure)) (first_of (spatial_fault a.pure a.spatial whole [] 0 link.map (map (apply_spatial link.subst) b.spatial)) (disjunct_fault bs 0 link.disjuncts (map (apply_heap link.subst) cs)))
+    first_of (pure_fault a.pure 0 (map (apply_pure link.subst) b.pure))
+    (first_of (spatial_fault a.pure a.spatial whole [] 0 link.map (map (apply_spatial link.subst) b.spatial))
+    (disjunct_fault bs 0 link.disjuncts (map (apply_heap link.subst) cs)))
 
 -- the bud, the companion, and the number of program variables
 abbrev pub link_fault : Judgement → Judgement → Link → ℕ → Option RuleFault
@@ -105,7 +112,8 @@ link_fault (Entail a bs) (Entail b cs) link p =
 link_fault (Entail a bs) (Runs i b) link p = Some WrongJudgement
 link_fault (Runs i a) (Entail b cs) link p = Some WrongJudgement
 link_fault (Runs i a) (Runs k b) link p =
-    first_of (fault_unless (nat_eq i k) LineDiffers) (first_of (fault_unless (keeps_below link.subst p) LinkProgramVariable) (parts_fault a [] b [] true link))
+    first_of (fault_unless (nat_eq i k) LineDiffers)
+    (first_of (fault_unless (keeps_below link.subst p) LinkProgramVariable) (parts_fault a [] b [] true link))
 
 -- the companion, its predicate atoms being those that the map names
 abbrev pub link_premise : Judgement → Link → Premise

@@ -4,11 +4,15 @@ use Rattle.heap_formula.specs.declared.commands.Command.{Command}
 use Rattle.heap_formula.specs.declared.judgements.Judgement.{Judgement}
 use Rattle.heap_formula.specs.declared.judgements.Judgement.TheVariants.{Entail, Term as Runs}
 use Rattle.heap_formula.specs.declared.proof_rules.Rule.{Rule}
-use Rattle.heap_formula.specs.declared.proof_rules.Rule.TheVariants.{Absurd, Rewrite, Split, Distinct, Weaken, Unfold, Cut, Done, Choose, PureRight, Instantiate, Frame, UnfoldRight, Exec, Drop}
+use Rattle.heap_formula.specs.declared.proof_rules.Rule.TheVariants.{Absurd, Rewrite, Split, Distinct, Weaken, Unfold}
+use Rattle.heap_formula.specs.declared.proof_rules.Rule.TheVariants.{Cut, Done, Choose, PureRight, Instantiate, Frame}
+use Rattle.heap_formula.specs.declared.proof_rules.Rule.TheVariants.{UnfoldRight, Exec, Drop}
 use Rattle.heap_formula.specs.Definitions.{Definition}
 use Rattle.heap_formula.specs.Programs.{program_variables}
 use Rattle.rule_table.specs.Answer.{Answer}
-use Rattle.rule_table.specs.Table.{absurd_answer, rewrite_answer, split_answer, distinct_answer, weaken_answer, unfold_answer, cut_answer, done_answer, choose_answer, pure_right_answer, instantiate_answer, frame_answer, unfold_right_answer, drop_answer}
+use Rattle.rule_table.specs.Table.{absurd_answer, rewrite_answer, split_answer, distinct_answer, weaken_answer}
+use Rattle.rule_table.specs.Table.{unfold_answer, cut_answer, done_answer, choose_answer, pure_right_answer}
+use Rattle.rule_table.specs.Table.{instantiate_answer, frame_answer, unfold_right_answer, drop_answer}
 use Rattle.rule_table.specs.ExecTable.{exec_answer}
 
 -- the number of program variables for a `from` judgement, 0 for an entailment

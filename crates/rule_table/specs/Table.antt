@@ -1,6 +1,7 @@
 -- The rules but Exec: the first fault, or the premises with their trace pairs.
-use Rattle.std.specs.Prelude.{ℕ, ◌+◌, max, List, [], ◌∷◌, ◌++◌, map, length, nat_eq, nat_le, if◌then◌else◌, Ok, Err, slice_get, slice_set, slice_index_or}
-use Rattle.cyc_limits.specs.declared.TheConstants.{MOST_SPATIAL}
+use Rattle.std.specs.Prelude.{ℕ, ◌+◌, max, List, [], ◌∷◌, ◌++◌, map, length, nat_eq, nat_le, if◌then◌else◌, Ok, Err}
+use Rattle.std.specs.Prelude.{slice_get, slice_set, slice_index_or}
+use Rattle.cyc_basics.specs.declared.limits.TheConstants.{MOST_SPATIAL}
 use Rattle.heap_formula.specs.declared.terms.Term.{Term}
 use Rattle.heap_formula.specs.declared.terms.Term.TheVariants.{Nil, Univ, Exist}
 use Rattle.heap_formula.specs.declared.atoms.Pure.{Pure}
@@ -12,7 +13,9 @@ use Rattle.heap_formula.specs.declared.judgements.Judgement.TheVariants.{Entail,
 use Rattle.heap_formula.specs.declared.judgements.Premise.{Premise}
 use Rattle.heap_formula.specs.declared.proof_rules.Side.{Side}
 use Rattle.heap_formula.specs.declared.proof_rules.Side.TheVariants.{Left, Right}
-use Rattle.heap_formula.specs.declared.proof_rules.RuleFault.TheVariants.{NoSuchAtom, NotEquation, AtomsDiffer, HasExistential, NotFollowing, NotAbsurd, NotEmpty, NoSuchCase, NoCell}
+use Rattle.heap_formula.specs.declared.proof_rules.RuleFault.TheVariants.{NoSuchAtom, NotEquation, AtomsDiffer}
+use Rattle.heap_formula.specs.declared.proof_rules.RuleFault.TheVariants.{HasExistential, NotFollowing, NotAbsurd}
+use Rattle.heap_formula.specs.declared.proof_rules.RuleFault.TheVariants.{NotEmpty, NoSuchCase, NoCell}
 use Rattle.heap_formula.specs.Symbolic.{SymbolicHeap}
 use Rattle.heap_formula.specs.Definitions.{Definition}
 use Rattle.heap_formula.specs.Meaning.{cases_of}
@@ -23,7 +26,8 @@ use Rattle.heap_formula.specs.Substitution.{in_heap, apply_pure, apply_spatial, 
 use Rattle.rule_table.specs.RuleUnfold.{unfold_premise, unfolded}
 use Rattle.rule_table.specs.RuleCut.{cut_left, cut_right}
 use Rattle.rule_table.specs.Answer.{Answer, needs, finds, entails, single, runs, limited, one, two}
-use Rattle.rule_table.specs.Tests.{same_term, same_spatial, is_universal_pure, is_universal_spatial, follows, is_absurd, address_of, ascend_from, has_number}
+use Rattle.rule_table.specs.Tests.{same_term, same_spatial, is_universal_pure, is_universal_spatial, follows, is_absurd}
+use Rattle.rule_table.specs.Tests.{address_of, ascend_from, has_number}
 
 -- ---- premises that keep most of the judgement
 
@@ -70,13 +74,18 @@ unnamed Right t u = t
 -- the pure atoms with u for v outside atom k, which goes, or stays where v is a program variable
 abbrev pub rewritten_pures : ℕ → ℕ → Pure → ℕ → Term → List Pure → List Pure
 rewritten_pures p k x v u xs =
-    if nat_le p v then map (apply_pure ((v, u) ∷ [])) (without k xs) else slice_set (map (apply_pure ((v, u) ∷ [])) xs) k x
+    if nat_le p v then map (apply_pure ((v, u) ∷ [])) (without k xs) else slice_set (map (apply_pure ((v, u) ∷ [])) xs)
+    k x
 
 -- the judgement with u for v outside pure atom k, which is x
 abbrev pub rewritten : ℕ → Judgement → ℕ → Pure → ℕ → Term → Premise
 rewritten p j k x v u =
     record {
-      judgement = with_antecedent (apply_judgement ((v, u) ∷ []) j) (record { pure = rewritten_pures p k x v u (antecedent j).pure; spatial = map (apply_spatial ((v, u) ∷ [])) (antecedent j).spatial });
+      judgement = with_antecedent (apply_judgement ((v, u) ∷ []) j)
+          (record {
+            pure = rewritten_pures p k x v u (antecedent j).pure;
+            spatial = map (apply_spatial ((v, u) ∷ [])) (antecedent j).spatial;
+          });
       pairs = same_pairs (antecedent j).spatial;
     }
 
@@ -90,7 +99,8 @@ rewrite_side p j k x (Univ v) u = Ok (one (rewritten p j k x v u))
 abbrev pub rewrite_atom : ℕ → Judgement → ℕ → Side → Pure → Answer
 rewrite_atom p j k side (Neq t u) = Err NotEquation
 rewrite_atom p j k side (Eq t u) =
-    if same_term t u then Ok (one (with_pures j (without k (antecedent j).pure))) else rewrite_side p j k (Eq t u) (named side t u) (unnamed side t u)
+    if same_term t u then Ok (one (with_pures j (without k (antecedent j).pure))) else rewrite_side p j k (Eq t u)
+    (named side t u) (unnamed side t u)
 
 -- Rewrite k: pure atom k of the antecedent is an equation, and its named side gives way to the other
 abbrev pub rewrite_answer : ℕ → Judgement → ℕ → Side → Answer
@@ -128,7 +138,9 @@ unfold_answer most ds p j k =
 -- Cut: the atoms at the places, which ascend strictly, entail f, and f stands in their place
 abbrev pub cut_answer : ℕ → ℕ → Judgement → List ℕ → SymbolicHeap → Answer
 cut_answer most p j places f =
-    needs (ascend_from 0 (length (antecedent j).spatial) places) NoSuchAtom (limited most (two (cut_left (antecedent j) (has_number places) f) (cut_right j (has_number places) f (max (fresh_number p j) (heap_bound f)))))
+    needs (ascend_from 0 (length (antecedent j).spatial) places) NoSuchAtom
+    (limited most (two (cut_left (antecedent j) (has_number places) f)
+    (cut_right j (has_number places) f (max (fresh_number p j) (heap_bound f)))))
 
 -- Drop k: spatial atom k of a symbolic state is dropped
 abbrev pub drop_answer : Judgement → ℕ → Answer
@@ -159,7 +171,8 @@ abbrev pub pure_right_answer : Judgement → ℕ → Answer
 pure_right_answer j k =
     single j (λ a b.
     finds (slice_get b.pure k) NoSuchAtom (λ x.
-    needs (is_universal_pure x) HasExistential (needs (follows a.pure x) NotFollowing (Ok (one (with_right a (without_pure k b ∷ [])))))))
+    needs (is_universal_pure x) HasExistential (needs (follows a.pure x) NotFollowing
+    (Ok (one (with_right a (without_pure k b ∷ [])))))))
 
 -- t for the existential variable v
 abbrev pub instance_term : ℕ → Term → Term → Term
@@ -177,7 +190,11 @@ frame_answer j i k =
     single j (λ a b.
     finds (slice_get a.spatial i) NoSuchAtom (λ x.
     finds (slice_get b.spatial k) NoSuchAtom (λ y.
-    needs (is_universal_spatial y) HasExistential (needs (same_spatial x y) AtomsDiffer (Ok (one (record { judgement = Entail (without_spatial i a) (without_spatial k b ∷ []); pairs = kept_pairs i a.spatial })))))))
+    needs (is_universal_spatial y) HasExistential (needs (same_spatial x y) AtomsDiffer
+    (Ok (one (record {
+      judgement = Entail (without_spatial i a) (without_spatial k b ∷ []);
+      pairs = kept_pairs i a.spatial;
+    })))))))
 
 -- a case's term at these arguments: parameter i is argument i, and local i is the existential e + i
 abbrev pub right_term : List Term → ℕ → Term → Term

@@ -1,7 +1,11 @@
 // Tests on terms and atoms.
 ghost use Rattle.std.specs.Prelude.{◌≡◌};
 ghost use Rattle.rule_table.specs.RuleLink.{mirror_pure};
-ghost use Rattle.rule_table.specs.Tests.{same_term as term_same, same_pure as pure_same, same_spatial, is_universal as universal, are_universal as universals, is_universal_pure as universal_pure, is_universal_spatial as universal_spatial, has_pure as list_has, is_trivial as trivial, follows as list_follows, equated as terms_stand};
+ghost use Rattle.rule_table.specs.Tests.{same_term as term_same, same_pure as pure_same, same_spatial};
+ghost use Rattle.rule_table.specs.Tests.{is_universal as universal, are_universal as universals};
+ghost use Rattle.rule_table.specs.Tests.{is_universal_pure as universal_pure};
+ghost use Rattle.rule_table.specs.Tests.{is_universal_spatial as universal_spatial, has_pure as list_has};
+ghost use Rattle.rule_table.specs.Tests.{is_trivial as trivial, follows as list_follows, equated as terms_stand};
 
 use heap_formula::{Pure, Spatial, Term, is_same_spatial};
 

@@ -6,7 +6,7 @@ ghost use Rattle.rule_table.specs.Answer.{one, two};
 ghost use Rattle.rule_table.specs.Table.{with_pures, with_pure, with_right};
 
 use crate::pairing::pairs_of_same;
-use cyc_limits::MOST_PURE;
+use cyc_basics::limits::MOST_PURE;
 use heap_formula::{Disjuncts, Heap, Judgement, OutOfMemory, Premise, Pure};
 use std::alloc::Global;
 

@@ -4,7 +4,7 @@ ghost use Rattle.heap_formula.specs.Positions.{chosen, chosen_place, pairs_from}
 ghost use Rattle.rule_table.specs.Tests.{ascend_from, has_number};
 ghost use Rattle.rule_table.specs.Choosing.{chosen_from, chosen_pairs as pairs_chosen, taken};
 
-use cyc_limits::MOST_SPATIAL;
+use cyc_basics::limits::MOST_SPATIAL;
 use heap_formula::{OutOfMemory, Pair, Pairs, Spatial};
 use std::alloc::Global;
 

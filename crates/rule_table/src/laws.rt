@@ -12,7 +12,8 @@ ghost use Rattle.rule_table.specs.LinkTable.{link_fault, link_premise};
 ghost use Rattle.rule_table.specs.RuleBook.{rule_answer};
 ghost use Rattle.rule_table.specs.Soundness.{IsSound, IsCommand, AreUniversal, HasVariables};
 
-/// Every rule is locally sound where no existential stands in the antecedent, and the program's commands are as programs have them.
+/// Every rule is locally sound where no existential stands in the antecedent, and the program's commands are as
+/// programs have them.
 pub fn rules_are_sound()
     ensures { (most : ℕ) (ds : List Definition) (lines : List Command) (j : Judgement) (rule : Rule)
         → IsUniversalHeap (antecedent j) → Each IsCommand lines

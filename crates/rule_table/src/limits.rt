@@ -9,7 +9,7 @@ ghost use Rattle.rule_table.specs.Table.{with_pure};
 ghost use Rattle.heap_formula.specs.Judgements.{antecedent};
 ghost use Rattle.heap_formula.specs.declared.atoms.Pure.{Pure};
 
-use cyc_limits::{MOST_PURE, MOST_SPATIAL, VARIABLE_NUMBERS};
+use cyc_basics::limits::{MOST_PURE, MOST_SPATIAL, VARIABLE_NUMBERS};
 use heap_formula::{
     Heap, Judgement, Premise, RuleError, RuleFault, Variables, bound_in_heap, bound_of_judgement,
 };

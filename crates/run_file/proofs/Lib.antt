@@ -11,3 +11,6 @@ mod Lines
 mod RunsAgain
 mod Defined
 pub mod Readings
+mod Raised
+mod Fields
+mod RunTrees

@@ -9,22 +9,23 @@ use Rattle.rule_table.specs.Tests.{is_universal}
 use Rattle.cyc_lex.specs.declared.fault.IllFault.TheVariants.{FallsOff, Numbering}
 use Rattle.cyc_lex.specs.declared.fault.What.TheVariants.{Lines}
 use Rattle.cyc_lex.proofs.BoolParts.{and-parts}
-use Rattle.command_syntax.specs.declared.tree.OperandTree.{OperandTree}
-use Rattle.command_syntax.specs.declared.tree.OperandTree.TheVariants as operands
-use Rattle.command_syntax.specs.declared.tree.ChangeTree.TheVariants as changes
-use Rattle.command_syntax.specs.declared.tree.CommandTree.{CommandTree}
-use Rattle.command_syntax.specs.declared.tree.CommandTree.TheVariants.{Stop, Goto, Free, IfAny, If, StoreAtNil, Change}
+use Rattle.heap_syntax.specs.declared.lines.tree.OperandTree.{OperandTree}
+use Rattle.heap_syntax.specs.declared.lines.tree.OperandTree.TheVariants as operands
+use Rattle.heap_syntax.specs.declared.lines.tree.ChangeTree.TheVariants as changes
+use Rattle.heap_syntax.specs.declared.lines.tree.CommandTree.{CommandTree}
+use Rattle.heap_syntax.specs.declared.lines.tree.CommandTree.TheVariants.{Stop, Goto, Free, IfAny, If, StoreAtNil}
+use Rattle.heap_syntax.specs.declared.lines.tree.CommandTree.TheVariants.{Change}
 use Rattle.heap_reader.specs.Flaws.{ill_if, over_if, or_later, listed_flaw}
 use Rattle.heap_reader.proofs.NoFlaw.{neither, not_ill}
-use Rattle.line_reader.specs.Spans.{line_span}
-use Rattle.line_reader.specs.LineFlaws.{goes_on, line_head_flaw, command_flaw, line_flaw}
-use Rattle.line_reader.specs.Values.{operand_value, command_value, variable_value, program_value}
+use Rattle.heap_reader.specs.LineSpans.{line_span}
+use Rattle.heap_reader.specs.LineFlaws.{goes_on, line_head_flaw, command_flaw, line_flaw}
+use Rattle.heap_reader.specs.LineValues.{operand_value, command_value, variable_value, program_value}
 use Rattle.proof_syntax.specs.Trees.{Line}
 use Rattle.proof_file.specs.Spans.{variable_span}
 use Rattle.proof_file.specs.Flaws.{variable_flaw}
 use Rattle.proof_file.specs.Written.{operand_tree, store_tree, command_tree, lines_behind}
 use Rattle.proof_file.specs.Readable.{is_universal_command, are_universal_commands}
-use Rattle.list_facts.proofs.Tests.{equal_numbers}
+use Rattle.cyc_basics.proofs.Tests.{equal_numbers}
 
 -- ---- lines
 
@@ -50,13 +51,17 @@ own_number : (count n k : ℕ) (l : Line) → line_flaw variable_flaw variable_s
 own_number count n k l e =
     let ends = nat_eq (suc n) count && goes_on l.command in
     let wrong = not (nat_eq l.number (suc n)) in
-    let a = neither (line_head_flaw count n k l.number (goes_on l.command)) (command_flaw variable_flaw variable_span count (k + 3) l.command) e in
-    let b = neither (ill_if ends FallsOff k) (or_later (over_if (nat_le 4096 n) Lines k) (ill_if wrong Numbering (k + 1))) a.0 in
+    let a = neither (line_head_flaw count n k l.number (goes_on l.command))
+    (command_flaw variable_flaw variable_span count (k + 3) l.command) e in
+    let b = neither (ill_if ends FallsOff k) (or_later (over_if (nat_le 4096 n) Lines k)
+    (ill_if wrong Numbering (k + 1))) a.0 in
     let c = neither (over_if (nat_le 4096 n) Lines k) (ill_if wrong Numbering (k + 1)) b.1 in
     let same = equal_numbers l.number (suc n) (not_ill wrong Numbering (k + 1) c.1) in
     omega (arith, same)
 
-pub lines_again : (count n k : ℕ) (ls : List Line) → listed_flaw (line_flaw variable_flaw variable_span count) (line_span variable_span) n k ls ≡ None → lines_behind n (program_value ls) ≡ ls
+pub lines_again : (count n k : ℕ) (ls : List Line)
+    → listed_flaw (line_flaw variable_flaw variable_span count) (line_span variable_span) n k ls ≡ None
+    → lines_behind n (program_value ls) ≡ ls
 lines_again count n k [] e = refl
 lines_again count n k (l ∷ ls) e =
     let span = line_span variable_span in
@@ -65,7 +70,8 @@ lines_again count n k (l ∷ ls) e =
     let number = own_number count n k l both.0 in
     let command = command_again l.command in
     let next : suc n ≡ n + 1 = omega arith in
-    let rest = subst (λ (m : ℕ). lines_behind m (program_value ls) ≡ ls) next (lines_again count (suc n) (k + span l) ls both.1) in
+    let rest = subst (λ (m : ℕ). lines_behind m (program_value ls) ≡ ls) next
+    (lines_again count (suc n) (k + span l) ls both.1) in
     λ i. record { number = number i; command = command i } ∷ rest i
 
 -- ---- commands
@@ -75,7 +81,8 @@ operand_known terms.Nil e = refl
 operand_known (terms.Univ n) e = refl
 operand_known (terms.Exist n) e = absurd cc
 
-store_known : (t : Term) (k : ℕ) (u : Term) → is_universal t ≡ true → is_universal u ≡ true → command_value variable_value (store_tree t k u) ≡ commands.Store t k u
+store_known : (t : Term) (k : ℕ) (u : Term) → is_universal t ≡ true → is_universal u ≡ true
+    → command_value variable_value (store_tree t k u) ≡ commands.Store t k u
 store_known terms.Nil k u e g = let same = operand_known u g in λ i. commands.Store terms.Nil k (same i)
 store_known (terms.Univ n) k u e g = let same = operand_known u g in λ i. commands.Store (terms.Univ n) k (same i)
 store_known (terms.Exist n) k u e g = absurd cc
@@ -102,7 +109,8 @@ command_known (commands.IfAny j) e = refl
 command_known (commands.Goto j) e = refl
 command_known commands.Stop e = refl
 
-pub commands_known : (n : ℕ) (cs : List Command) → are_universal_commands cs ≡ true → program_value (lines_behind n cs) ≡ cs
+pub commands_known : (n : ℕ) (cs : List Command) → are_universal_commands cs ≡ true
+    → program_value (lines_behind n cs) ≡ cs
 commands_known n [] e = refl
 commands_known n (c ∷ cs) e =
     let both = and-parts (is_universal_command c) (are_universal_commands cs) e in

@@ -7,17 +7,18 @@ use Rattle.cyc_lex.specs.declared.fault.IllFault.TheVariants.{NoLine}
 use Rattle.heap_syntax.specs.declared.version.Version.TheVariants.{Two}
 use Rattle.heap_reader.specs.Flaws.{ill_if, or_later, listed_flaw, heap_flaw}
 use Rattle.heap_reader.proofs.NoFlaw.{neither, not_ill, positive}
-use Rattle.pred_reader.specs.declared.scope.Scope.TheVariants.{Outside}
-use Rattle.pred_reader.specs.Spans.{term_span, definition_span}
-use Rattle.pred_reader.specs.Flaws.{headings, term_flaw, definition_flaw}
-use Rattle.line_reader.specs.Values.{line_value, variable_value, program_value}
+use Rattle.heap_reader.specs.declared.definitions.scope.Scope.TheVariants.{Outside}
+use Rattle.heap_reader.specs.DefinitionSpans.{term_span, definition_span}
+use Rattle.heap_reader.specs.DefinitionFlaws.{headings, term_flaw, definition_flaw}
+use Rattle.heap_reader.specs.LineValues.{line_value, variable_value, program_value}
 use Rattle.proof_syntax.specs.Trees.{Line}
 use Rattle.proof_file.specs.Building.{front_of}
 use Rattle.proof_file.specs.Flaws.{first_line, program_flaw}
 use Rattle.proof_file.proofs.Fitting.{file_parts}
 use Rattle.model_file.specs.Flaws.{stack_flaw, cells_flaw}
 use Rattle.run_file.specs.Trees.{Run}
-use Rattle.run_file.specs.Flaws.{picks_flaw, from_place, first_value, first_cell, first_pick, front_flaw, claim_flaw, state_given_flaw, run_flaw}
+use Rattle.run_file.specs.Flaws.{picks_flaw, from_place, first_value, first_cell, first_pick, front_flaw, claim_flaw}
+use Rattle.run_file.specs.Flaws.{state_given_flaw, run_flaw}
 
 -- no part has a flaw
 pub record Faultless (r : Run) : Type 0 where
@@ -26,7 +27,8 @@ pub record Faultless (r : Run) : Type 0 where
   pub program : program_flaw (first_line (front_of Two r.definitions r.lines)) r.lines ≡ None
   pub claim : claim_flaw r ≡ None
   pub line : (nat_eq r.line 0 || nat_lt (length r.lines) r.line) ≡ false
-  pub precondition : heap_flaw (term_flaw Outside) term_span 32 (headings r.definitions) (from_place r + 3) r.precondition ≡ None
+  pub precondition : heap_flaw (term_flaw Outside) term_span 32 (headings r.definitions) (from_place r + 3)
+      r.precondition ≡ None
   pub stack : stack_flaw (first_value r) r.stack ≡ None
   pub cells : cells_flaw (first_cell r) r.cells ≡ None
   pub picks : picks_flaw (first_pick r) r.picks ≡ None
@@ -40,7 +42,8 @@ faultless r e =
     let d = neither (stack_flaw (first_value r) r.stack) (cells_flaw (first_cell r) r.cells) c.0 in
     let fronts = file_parts (front_of Two r.definitions r.lines) a.0 in
     let out = nat_eq r.line 0 || nat_lt (length r.lines) r.line in
-    let claims = neither (ill_if out NoLine (from_place r + 1)) (heap_flaw (term_flaw Outside) term_span 32 (headings r.definitions) (from_place r + 3) r.precondition) b.0 in
+    let claims = neither (ill_if out NoLine (from_place r + 1))
+    (heap_flaw (term_flaw Outside) term_span 32 (headings r.definitions) (from_place r + 3) r.precondition) b.0 in
     record {
       front = a.0;
       definitions = fronts.0;

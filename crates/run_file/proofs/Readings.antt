@@ -49,12 +49,15 @@ text_is_read r =
     (has.0, has.1, (t, (r.fits, has.2), r.flawless, run_known r))
 
 -- what is written of a run, if anything, spells it
-pub written_is_read : {V E : Type 0} (items : V → List ℕ) (r : RunFile) (t : Run) (answer : Result V E) → t ≡ tree_of_run r → IfOk answer (λ v. items v ≡ text_of (body.words t)) → IfOk answer (λ v. IsRead (items v) (Ok r))
+pub written_is_read : {V E : Type 0} (items : V → List ℕ) (r : RunFile) (t : Run) (answer : Result V E)
+    → t ≡ tree_of_run r → IfOk answer (λ v. items v ≡ text_of (body.words t))
+    → IfOk answer (λ v. IsRead (items v) (Ok r))
 written_is_read items r t (Ok v) same h =
     subst (λ bs. IsRead bs (Ok r)) (sym (h ∙ ap (λ u. text_of (body.words u)) same)) (text_is_read r)
 written_is_read items r t (Err e) same h = tt
 
 -- what is read of a run's text is that run
-pub text_read_again : (r : RunFile) (bytes : List ℕ) (answer : Result RunFile ReadFault) → bytes ≡ text_of_run_file r → Reads bytes answer → IsReadAgain r answer
+pub text_read_again : (r : RunFile) (bytes : List ℕ) (answer : Result RunFile ReadFault) → bytes ≡ text_of_run_file r
+    → Reads bytes answer → IsReadAgain r answer
 text_read_again r bytes answer same =
     again run_files run-law AreSame one_run r bytes answer (subst (λ bs. IsRead bs (Ok r)) (sym same) (text_is_read r))

@@ -5,21 +5,27 @@ use Rattle.cyc_lex.specs.Word.{is_lexeme}
 use Rattle.cyc_lex.proofs.Letters.{letters-name}
 use Rattle.cyc_grammar.specs.Syntax.{Class, one, is_one}
 use Rattle.cyc_grammar.specs.Classes.{number}
-use Rattle.cyc_grammar.proofs.Ends.{Inner, EndsLast, one-inner, seq-inner, alt-inner, after-inner, before-inner, shaped-inner, or_empty-inner, end-once, number-inner}
-use Rattle.heap_syntax.specs.Words.{from_word, given_word, comma, semicolon, arrow, opening, closing, last_word, cyclist_word, dollar}
+use Rattle.cyc_grammar.proofs.Ends.{Inner, EndsLast, one-inner, seq-inner, alt-inner, after-inner, before-inner}
+use Rattle.cyc_grammar.proofs.Ends.{shaped-inner, or_empty-inner, end-once, number-inner}
+use Rattle.heap_syntax.specs.Words.{from_word, given_word, comma, semicolon, arrow, opening, closing, last_word}
+use Rattle.heap_syntax.specs.Words.{cyclist_word, dollar}
 use Rattle.heap_syntax.specs.Versions.{first_version}
 use Rattle.heap_syntax.specs.declared.version.Version.TheVariants.{Two}
 use Rattle.heap_syntax.specs.Grammar.{Any}
 use Rattle.heap_syntax.proofs.WordTexts.{from-word, given-word, last-word, cyclist-word, first_version-word, syms}
 use Rattle.heap_syntax.proofs.HeapEnds.{listed-inner}
-use Rattle.pred_syntax.specs.Grammar.{terms, heap, definitions}
-use Rattle.pred_syntax.proofs.DefinitionEnds.{heap-of, definitions-inner}
-use Rattle.command_syntax.specs.Grammar.{line_word}
-use Rattle.command_syntax.proofs.CommandLaws.{lines-inner}
+use Rattle.heap_syntax.specs.DefinitionGrammar.{terms, heap, definitions}
+use Rattle.heap_syntax.proofs.DefinitionEnds.{heap-of, definitions-inner}
+use Rattle.heap_syntax.specs.LineGrammar.{line_word}
+use Rattle.heap_syntax.proofs.CommandLaws.{lines-inner}
 use Rattle.proof_syntax.specs.Grammar.{variable, lines}
-use Rattle.model_syntax.specs.Trees.{Cell}
-use Rattle.model_syntax.specs.Grammar.{stack_word, heap_word, numbers, values, to_cell, from_cell, cell, some_cell, cells1, cells, state}
-use Rattle.run_file.specs.Grammar.{run_word, picks_word, jump_word, next_word, faults_word, repeats_word, step_word, state_claimed, claim, to_pick, from_pick, pick, some_pick, picks1, picks, then_step, faulting, repeating, to_outcome, from_outcome, outcome, ending, course, Parts, to_run, from_run, body, run}
+use Rattle.model_file.specs.Trees.{Cell}
+use Rattle.model_file.specs.Grammar.{stack_word, heap_word, numbers, values, to_cell, from_cell, cell, some_cell}
+use Rattle.model_file.specs.Grammar.{cells1, cells, state}
+use Rattle.run_file.specs.Grammar.{run_word, picks_word, jump_word, next_word, faults_word, repeats_word, step_word}
+use Rattle.run_file.specs.Grammar.{state_claimed, claim, to_pick, from_pick, pick, some_pick, picks1, picks, then_step}
+use Rattle.run_file.specs.Grammar.{faulting, repeating, to_outcome, from_outcome, outcome, ending, course, Parts}
+use Rattle.run_file.specs.Grammar.{to_run, from_run, body, run}
 
 run-word : is_lexeme (run_word.word tt) ≡ true
 run-word = letters-name (codes "run") refl
@@ -57,11 +63,14 @@ variable-inner = after-inner dollar (one number) syms.dollar_word number-inner
 
 state_claimed-inner : Inner state_claimed
 unfolding state_claimed
-state_claimed-inner = after-inner from_word _ from-word (seq-inner (one number) _ number-inner (after-inner given_word _ given-word (before-inner (heap (terms true)) semicolon syms.semicolon_word (heap-of true))))
+state_claimed-inner = after-inner from_word _ from-word
+    (seq-inner (one number) _ number-inner (after-inner given_word _ given-word
+    (before-inner (heap (terms true)) semicolon syms.semicolon_word (heap-of true))))
 
 claim-inner : Inner claim
 unfolding claim
-claim-inner = seq-inner definitions _ definitions-inner (seq-inner (lines Two) state_claimed (lines-inner Two variable variable-inner) state_claimed-inner)
+claim-inner = seq-inner definitions _ definitions-inner
+    (seq-inner (lines Two) state_claimed (lines-inner Two variable variable-inner) state_claimed-inner)
 
 numbers-inner : (behind : Class (Unit {0})) → is_lexeme (behind.word tt) ≡ true → Inner (numbers behind)
 unfolding numbers
@@ -73,24 +82,31 @@ values-inner = or_empty-inner semicolon _ syms.semicolon_word (numbers-inner sem
 
 cell-inner : Inner cell
 unfolding cell
-cell-inner = shaped-inner {A = ℕ × List ℕ} to_cell from_cell Any _ (seq-inner (one number) _ number-inner (after-inner arrow _ syms.arrow_word (after-inner opening _ syms.opening_word (numbers-inner closing syms.closing_word))))
+cell-inner = shaped-inner {A = ℕ × List ℕ} to_cell from_cell Any _
+    (seq-inner (one number) _ number-inner (after-inner arrow _ syms.arrow_word
+    (after-inner opening _ syms.opening_word (numbers-inner closing syms.closing_word))))
 
 cells-inner : Inner cells
 unfolding cells cells1
-cells-inner = or_empty-inner semicolon _ syms.semicolon_word (listed-inner some_cell comma semicolon cell syms.comma_word syms.semicolon_word cell-inner)
+cells-inner = or_empty-inner semicolon _ syms.semicolon_word
+    (listed-inner some_cell comma semicolon cell syms.comma_word syms.semicolon_word cell-inner)
 
 state-inner : Inner state
 unfolding state
-state-inner = after-inner stack_word _ stack-word (seq-inner values _ values-inner (after-inner heap_word _ heap-word cells-inner))
+state-inner = after-inner stack_word _ stack-word (seq-inner values _ values-inner
+    (after-inner heap_word _ heap-word cells-inner))
 
 pick-inner : Inner pick
 unfolding pick
 pick-inner =
-    shaped-inner {A = Cell ⊎ (Unit {0} ⊎ Unit {0})} to_pick from_pick Any _ (alt-inner (is_one number) cell _ cell-inner (alt-inner (is_one jump_word) (one jump_word) (one next_word) (one-inner jump_word (λ u f. jump-word)) (one-inner next_word (λ u f. next-word))))
+    shaped-inner {A = Cell ⊎ (Unit {0} ⊎ Unit {0})} to_pick from_pick Any _
+    (alt-inner (is_one number) cell _ cell-inner (alt-inner (is_one jump_word) (one jump_word) (one next_word)
+    (one-inner jump_word (λ u f. jump-word)) (one-inner next_word (λ u f. next-word))))
 
 picks-inner : Inner picks
 unfolding picks picks1
-picks-inner = or_empty-inner semicolon _ syms.semicolon_word (listed-inner some_pick comma semicolon pick syms.comma_word syms.semicolon_word pick-inner)
+picks-inner = or_empty-inner semicolon _ syms.semicolon_word
+    (listed-inner some_pick comma semicolon pick syms.comma_word syms.semicolon_word pick-inner)
 
 then_step-inner : Inner then_step
 unfolding then_step
@@ -99,7 +115,10 @@ then_step-inner = seq-inner (one number) _ number-inner (after-inner step_word (
 outcome-inner : Inner outcome
 unfolding outcome faulting repeating
 outcome-inner =
-    shaped-inner {A = (ℕ × ℕ) ⊎ (ℕ × ℕ)} to_outcome from_outcome Any _ (alt-inner (is_one faults_word) _ _ (after-inner faults_word _ faults-word (after-inner line_word then_step line-word then_step-inner)) (after-inner repeats_word _ repeats-word (after-inner step_word then_step step-word then_step-inner)))
+    shaped-inner {A = (ℕ × ℕ) ⊎ (ℕ × ℕ)} to_outcome from_outcome Any _
+    (alt-inner (is_one faults_word) _ _ (after-inner faults_word _ faults-word
+    (after-inner line_word then_step line-word then_step-inner))
+    (after-inner repeats_word _ repeats-word (after-inner step_word then_step step-word then_step-inner)))
 
 ending-inner : Inner ending
 unfolding ending
@@ -107,11 +126,14 @@ ending-inner = before-inner _ last_word last-word (before-inner outcome semicolo
 
 course-inner : Inner course
 unfolding course
-course-inner = seq-inner state _ state-inner (after-inner picks_word _ picks-word (seq-inner picks ending picks-inner ending-inner))
+course-inner = seq-inner state _ state-inner (after-inner picks_word _ picks-word
+    (seq-inner picks ending picks-inner ending-inner))
 
 pub body-inner : Inner body
 unfolding body
-body-inner = shaped-inner {A = Parts} to_run from_run Any _ (after-inner cyclist_word _ cyclist-word (after-inner run_word _ run-word (after-inner first_version _ first_version-word (after-inner semicolon _ syms.semicolon_word
+body-inner = shaped-inner {A = Parts} to_run from_run Any _
+    (after-inner cyclist_word _ cyclist-word (after-inner run_word _ run-word
+    (after-inner first_version _ first_version-word (after-inner semicolon _ syms.semicolon_word
     (seq-inner claim _ claim-inner (before-inner course semicolon syms.semicolon_word course-inner))))))
 
 pub run-last : EndsLast run

@@ -1,11 +1,12 @@
 -- The grammar of run files is lawful: what is read is spelled so, what is spelled is read, and a fault is exact.
 use Rattle.std.proofs.Common.{◌≡◌, ℕ, true, false, List, [], ◌∷◌, ◌++◌, is_some, refl, ap, inl, inr, ◌⊎◌}
 use Rattle.cyc_lex.specs.Word.{Word}
-use Rattle.refuting_runs.specs.declared.picks.Pick.{Pick}
-use Rattle.refuting_runs.specs.declared.picks.Pick.TheVariants.{Cell as CellPicked, Jumps}
+use Rattle.general_models.specs.declared.runs.picks.Pick.{Pick}
+use Rattle.general_models.specs.declared.runs.picks.Pick.TheVariants.{Cell as CellPicked, Jumps}
 use Rattle.cyc_grammar.specs.Syntax.{Class, one, seq, alt, after, before, is_one}
 use Rattle.cyc_grammar.specs.Classes.{the_end, number}
-use Rattle.cyc_grammar.proofs.Laws.{Lawful, Stops, Begins, BeginsNot, ClassLaw, one-law, seq-law, shaped-law, alt-law, after-law, before-law, or_empty-law, Stops-never}
+use Rattle.cyc_grammar.proofs.Laws.{Lawful, Stops, Begins, BeginsNot, ClassLaw, one-law, seq-law, shaped-law, alt-law}
+use Rattle.cyc_grammar.proofs.Laws.{after-law, before-law, or_empty-law, Stops-never}
 use Rattle.cyc_grammar.proofs.ClassLaws.{symbol-law, keyword-law, the_end-law, number-law}
 use Rattle.heap_syntax.specs.Words.{from_word, given_word, comma, semicolon, arrow, opening, closing, last_word}
 use Rattle.heap_syntax.specs.Versions.{first_version}
@@ -13,34 +14,42 @@ use Rattle.heap_syntax.specs.declared.version.Version.TheVariants.{Two}
 use Rattle.heap_syntax.specs.Grammar.{Any}
 use Rattle.heap_syntax.proofs.WordTexts.{first_version-law}
 use Rattle.heap_syntax.proofs.HeapLaws.{closed-stops, listed-law, listed-closed, listed-some, listed-not}
-use Rattle.pred_syntax.specs.Trees.{Heap, Definition}
-use Rattle.pred_syntax.specs.Grammar.{terms, heap, definitions}
-use Rattle.pred_syntax.proofs.DefinitionLaws.{heap-lawful, heap-stops, definitions-law, definitions-end}
-use Rattle.command_syntax.specs.Grammar as commands
-use Rattle.command_syntax.proofs.CommandLaws.{lines-law, lines-end}
+use Rattle.heap_syntax.specs.DefinitionTrees.{Heap, Definition}
+use Rattle.heap_syntax.specs.DefinitionGrammar.{terms, heap, definitions}
+use Rattle.heap_syntax.proofs.DefinitionLaws.{heap-lawful, heap-stops, definitions-law, definitions-end}
+use Rattle.heap_syntax.specs.LineGrammar as commands
+use Rattle.heap_syntax.proofs.CommandLaws.{lines-law, lines-end}
 use Rattle.proof_syntax.specs.Trees.{Line}
 use Rattle.proof_syntax.specs.Grammar.{variable, lines}
 use Rattle.proof_syntax.proofs.GrammarLaws.{dollar_variables}
-use Rattle.model_syntax.specs.Trees.{Cell}
-use Rattle.model_syntax.specs.Grammar.{stack_word, heap_word, numbers, values, to_cell, from_cell, cell, some_cell, cells1, cells, state}
+use Rattle.model_file.specs.Trees.{Cell}
+use Rattle.model_file.specs.Grammar.{stack_word, heap_word, numbers, values, to_cell, from_cell, cell, some_cell}
+use Rattle.model_file.specs.Grammar.{cells1, cells, state}
 use Rattle.run_file.specs.declared.tree.Outcome.{Outcome}
 use Rattle.run_file.specs.declared.tree.Outcome.TheVariants.{Faults, Repeats}
-use Rattle.run_file.specs.Grammar.{picks_word, jump_word, next_word, faults_word, repeats_word, step_word, state_claimed, claim, to_pick, from_pick, pick, some_pick, picks1, picks, then_step, faulting, repeating, to_outcome, from_outcome, outcome, ending, course, Parts, to_run, from_run, body, run}
+use Rattle.run_file.specs.Grammar.{picks_word, jump_word, next_word, faults_word, repeats_word, step_word}
+use Rattle.run_file.specs.Grammar.{state_claimed, claim, to_pick, from_pick, pick, some_pick, picks1, picks, then_step}
+use Rattle.run_file.specs.Grammar.{faulting, repeating, to_outcome, from_outcome, outcome, ending, course, Parts}
+use Rattle.run_file.specs.Grammar.{to_run, from_run, body, run}
 
 -- ---- the claim
 
 state_claimed-law : Lawful state_claimed
 unfolding state_claimed
 state_claimed-law =
-    after-law from_word _ (keyword-law _) (seq-law (one number) (after given_word (before (heap (terms true)) semicolon)) (one-law number number-law)
-    (after-law given_word _ (keyword-law _) (before-law (heap (terms true)) semicolon (symbol-law _) (heap-lawful true) (λ h f. heap-stops true (semicolon.word tt) refl h f)))
+    after-law from_word _ (keyword-law _) (seq-law (one number)
+    (after given_word (before (heap (terms true)) semicolon)) (one-law number number-law)
+    (after-law given_word _ (keyword-law _) (before-law (heap (terms true)) semicolon (symbol-law _) (heap-lawful true)
+    (λ h f. heap-stops true (semicolon.word tt) refl h f)))
     (λ x y r fx fy h. Stops-never ((after given_word (before (heap (terms true)) semicolon)).words y ++ r)))
 
-lines-apart : (ls : List Line) (x : ℕ × Heap) (rest : List Word) → Stops ((lines Two).more ls) (state_claimed.words x ++ rest)
+lines-apart : (ls : List Line) (x : ℕ × Heap) (rest : List Word)
+    → Stops ((lines Two).more ls) (state_claimed.words x ++ rest)
 unfolding state_claimed
 lines-apart ls x rest = lines-end Two variable (from_word.word tt) refl ls
 
-definitions-apart : (ds : List Definition) (ls : List Line) (x : ℕ × Heap) (rest : List Word) → Stops (definitions.more ds) ((seq (lines Two) state_claimed).words (ls, x) ++ rest)
+definitions-apart : (ds : List Definition) (ls : List Line) (x : ℕ × Heap) (rest : List Word)
+    → Stops (definitions.more ds) ((seq (lines Two) state_claimed).words (ls, x) ++ rest)
 unfolding state_claimed commands.lines commands.line
 definitions-apart ds [] x rest = definitions-end (from_word.word tt) refl ds
 definitions-apart ds (l ∷ ls) x rest = definitions-end (commands.line_word.word tt) refl ds
@@ -49,7 +58,8 @@ claim-law : Lawful claim
 unfolding claim
 claim-law =
     seq-law definitions (seq (lines Two) state_claimed) definitions-law
-    (seq-law (lines Two) state_claimed (lines-law Two variable dollar_variables) state_claimed-law (λ ls x r fl fx h. lines-apart ls x r))
+    (seq-law (lines Two) state_claimed (lines-law Two variable dollar_variables) state_claimed-law
+    (λ ls x r fl fx h. lines-apart ls x r))
     (λ ds p r fd fp h. definitions-apart ds p.0 p.1 r)
 
 claim-closed : (c : List Definition × (List Line × (ℕ × Heap))) (d : Word) → claim.more c d ≡ false
@@ -58,10 +68,17 @@ claim-closed c d = refl
 
 -- ---- numbers
 
-numbers-law : (behind : Class (Unit {0})) → ClassLaw behind → is_one comma (behind.word tt) ≡ false → Lawful (numbers behind)
+numbers-law : (behind : Class (Unit {0})) → ClassLaw behind → is_one comma (behind.word tt) ≡ false
+    → Lawful (numbers behind)
 unfolding numbers
 numbers-law behind law other =
-    listed-law 0 comma behind (one number) (record { law = symbol-law _; last = law; apart = λ x f. refl; last_apart = λ x f. refl; differ = other }) (one-law number number-law)
+    listed-law 0 comma behind (one number) (record {
+      law = symbol-law _;
+      last = law;
+      apart = λ x f. refl;
+      last_apart = λ x f. refl;
+      differ = other;
+    }) (one-law number number-law)
 
 numbers-closed : (behind : Class (Unit {0})) (ns : List ℕ) (d : Word) → (numbers behind).more ns d ≡ false
 unfolding numbers
@@ -70,7 +87,8 @@ numbers-closed behind ns d = listed-closed 0 comma behind (one number) ns d
 values-law : Lawful values
 unfolding values numbers
 values-law =
-    or_empty-law semicolon (numbers semicolon) (symbol-law _) (numbers-law semicolon (symbol-law _) refl) (listed-some 0 comma semicolon (one number))
+    or_empty-law semicolon (numbers semicolon) (symbol-law _) (numbers-law semicolon (symbol-law _) refl)
+    (listed-some 0 comma semicolon (one number))
     (listed-not 0 comma semicolon (one number) (is_one semicolon) (λ n f. refl))
 
 values-closed : (ns : List ℕ) (d : Word) → values.more ns d ≡ false
@@ -103,12 +121,19 @@ cell-number c f = ap is_some (number-law.value c.address f.1.0)
 cells1-law : Lawful cells1
 unfolding cells1
 cells1-law =
-    listed-law some_cell comma semicolon cell (record { law = symbol-law _; last = symbol-law _; apart = λ x f. cell-closed x (comma.word tt); last_apart = λ x f. cell-closed x (semicolon.word tt); differ = refl }) cell-law
+    listed-law some_cell comma semicolon cell (record {
+      law = symbol-law _;
+      last = symbol-law _;
+      apart = λ x f. cell-closed x (comma.word tt);
+      last_apart = λ x f. cell-closed x (semicolon.word tt);
+      differ = refl;
+    }) cell-law
 
 cells-law : Lawful cells
 unfolding cells cells1
 cells-law =
-    or_empty-law semicolon cells1 (symbol-law _) cells1-law (listed-some some_cell comma semicolon cell) (listed-not some_cell comma semicolon cell (is_one semicolon) (λ c f. cell-not c))
+    or_empty-law semicolon cells1 (symbol-law _) cells1-law (listed-some some_cell comma semicolon cell)
+    (listed-not some_cell comma semicolon cell (is_one semicolon) (λ c f. cell-not c))
 
 cells-closed : (cs : List Cell) (d : Word) → cells.more cs d ≡ false
 unfolding cells cells1
@@ -118,7 +143,8 @@ cells-closed (c ∷ cs) d = listed-closed some_cell comma semicolon cell (c ∷ 
 state-law : Lawful state
 unfolding state
 state-law =
-    after-law stack_word _ (keyword-law _) (seq-law values (after heap_word cells) values-law (after-law heap_word cells (keyword-law _) cells-law)
+    after-law stack_word _ (keyword-law _) (seq-law values (after heap_word cells) values-law
+    (after-law heap_word cells (keyword-law _) cells-law)
     (λ x y r fx fy h. closed-stops values (λ x d f. values-closed x d) x fx ((after heap_word cells).words y ++ r)))
 
 state-closed : (s : List ℕ × List Cell) (d : Word) → state.more s d ≡ false
@@ -131,8 +157,10 @@ pick-law : Lawful pick
 unfolding pick
 pick-law =
     shaped-law {A = Cell ⊎ (Unit {0} ⊎ Unit {0})} to_pick from_pick Any _ (λ x f. (there x, tt)) (λ p h. here p)
-    (alt-law (is_one number) cell (alt (is_one jump_word) (one jump_word) (one next_word)) cell-number (λ x f. no_number x) cell-law
-    (alt-law (is_one jump_word) (one jump_word) (one next_word) (λ u f. refl) (λ u f. refl) (one-law jump_word (keyword-law _)) (one-law next_word (keyword-law _))))
+    (alt-law (is_one number) cell (alt (is_one jump_word) (one jump_word) (one next_word)) cell-number
+    (λ x f. no_number x) cell-law
+    (alt-law (is_one jump_word) (one jump_word) (one next_word) (λ u f. refl) (λ u f. refl)
+    (one-law jump_word (keyword-law _)) (one-law next_word (keyword-law _))))
   where
     there : (x : Cell ⊎ (Unit {0} ⊎ Unit {0})) → from_pick (to_pick x) ≡ x
     there (inl c) = refl
@@ -144,7 +172,8 @@ pick-law =
     here (Jumps true) = refl
     here (Jumps false) = refl
 
-    no_number : (x : Unit {0} ⊎ Unit {0}) → BeginsNot (is_one number) ((alt (is_one jump_word) (one jump_word) (one next_word)).words x)
+    no_number : (x : Unit {0} ⊎ Unit {0}) → BeginsNot (is_one number)
+        ((alt (is_one jump_word) (one jump_word) (one next_word)).words x)
     no_number (inl u) = refl
     no_number (inr u) = refl
 
@@ -163,12 +192,19 @@ pick-not (Jumps false) = refl
 picks1-law : Lawful picks1
 unfolding picks1
 picks1-law =
-    listed-law some_pick comma semicolon pick (record { law = symbol-law _; last = symbol-law _; apart = λ x f. pick-closed x (comma.word tt); last_apart = λ x f. pick-closed x (semicolon.word tt); differ = refl }) pick-law
+    listed-law some_pick comma semicolon pick (record {
+      law = symbol-law _;
+      last = symbol-law _;
+      apart = λ x f. pick-closed x (comma.word tt);
+      last_apart = λ x f. pick-closed x (semicolon.word tt);
+      differ = refl;
+    }) pick-law
 
 picks-law : Lawful picks
 unfolding picks picks1
 picks-law =
-    or_empty-law semicolon picks1 (symbol-law _) picks1-law (listed-some some_pick comma semicolon pick) (listed-not some_pick comma semicolon pick (is_one semicolon) (λ p f. pick-not p))
+    or_empty-law semicolon picks1 (symbol-law _) picks1-law (listed-some some_pick comma semicolon pick)
+    (listed-not some_pick comma semicolon pick (is_one semicolon) (λ p f. pick-not p))
 
 picks-closed : (ps : List Pick) (d : Word) → picks.more ps d ≡ false
 unfolding picks picks1
@@ -180,7 +216,8 @@ picks-closed (p ∷ ps) d = listed-closed some_pick comma semicolon pick (p ∷ 
 then_step-law : Lawful then_step
 unfolding then_step
 then_step-law =
-    seq-law (one number) (after step_word (one number)) (one-law number number-law) (after-law step_word (one number) (keyword-law _) (one-law number number-law))
+    seq-law (one number) (after step_word (one number)) (one-law number number-law)
+    (after-law step_word (one number) (keyword-law _) (one-law number number-law))
     (λ x y r fx fy h. Stops-never ((after step_word (one number)).words y ++ r))
 
 then_step-closed : (p : ℕ × ℕ) (d : Word) → then_step.more p d ≡ false
@@ -191,7 +228,8 @@ outcome-law : Lawful outcome
 unfolding outcome faulting repeating
 outcome-law =
     shaped-law {A = (ℕ × ℕ) ⊎ (ℕ × ℕ)} to_outcome from_outcome Any _ (λ x f. (there x, tt)) (λ o h. here o)
-    (alt-law (is_one faults_word) faulting repeating (λ p f. refl) (λ p f. refl) (after-law faults_word _ (keyword-law _) (after-law commands.line_word then_step (keyword-law _) then_step-law))
+    (alt-law (is_one faults_word) faulting repeating (λ p f. refl) (λ p f. refl)
+    (after-law faults_word _ (keyword-law _) (after-law commands.line_word then_step (keyword-law _) then_step-law))
     (after-law repeats_word _ (keyword-law _) (after-law step_word then_step (keyword-law _) then_step-law)))
   where
     there : (x : (ℕ × ℕ) ⊎ (ℕ × ℕ)) → from_outcome (to_outcome x) ≡ x
@@ -209,7 +247,9 @@ outcome-closed (Repeats m n) d = then_step-closed (m, n) d
 
 ending-law : Lawful ending
 unfolding ending
-ending-law = before-law (before outcome semicolon) last_word (keyword-law _) (before-law outcome semicolon (symbol-law _) outcome-law (λ o f. outcome-closed o (semicolon.word tt))) (λ o f. refl)
+ending-law = before-law (before outcome semicolon) last_word (keyword-law _)
+    (before-law outcome semicolon (symbol-law _) outcome-law (λ o f. outcome-closed o (semicolon.word tt)))
+    (λ o f. refl)
 
 -- ---- run files
 
@@ -217,8 +257,10 @@ course-law : Lawful course
 unfolding course
 course-law =
     seq-law state (after picks_word (seq picks ending)) state-law
-    (after-law picks_word _ (keyword-law _) (seq-law picks ending picks-law ending-law (λ x y r fx fy h. closed-stops picks (λ x d f. picks-closed x d) x fx (ending.words y ++ r))))
-    (λ x y r fx fy h. closed-stops state (λ x d f. state-closed x d) x fx ((after picks_word (seq picks ending)).words y ++ r))
+    (after-law picks_word _ (keyword-law _) (seq-law picks ending picks-law ending-law
+    (λ x y r fx fy h. closed-stops picks (λ x d f. picks-closed x d) x fx (ending.words y ++ r))))
+    (λ x y r fx fy h. closed-stops state (λ x d f. state-closed x d) x fx
+    ((after picks_word (seq picks ending)).words y ++ r))
 
 course-closed : (c : (List ℕ × List Cell) × (List Pick × Outcome)) (d : Word) → course.more c d ≡ false
 unfolding course ending
@@ -228,8 +270,10 @@ body-law : Lawful body
 unfolding body
 body-law =
     shaped-law {A = Parts} to_run from_run Any _ (λ x f. (refl, tt)) (λ r h. refl)
-    (after-law _ _ (keyword-law _) (after-law _ _ (keyword-law _) (after-law first_version _ first_version-law (after-law semicolon _ (symbol-law _)
-    (seq-law claim (before course semicolon) claim-law (before-law course semicolon (symbol-law _) course-law (λ c f. course-closed c (semicolon.word tt)))
+    (after-law _ _ (keyword-law _) (after-law _ _ (keyword-law _)
+    (after-law first_version _ first_version-law (after-law semicolon _ (symbol-law _)
+    (seq-law claim (before course semicolon) claim-law
+    (before-law course semicolon (symbol-law _) course-law (λ c f. course-closed c (semicolon.word tt)))
     (λ x y r fx fy h. closed-stops claim (λ x d f. claim-closed x d) x fx ((before course semicolon).words y ++ r)))))))
 
 pub run-law : Lawful run

@@ -1,5 +1,6 @@
 -- What a tree without a flaw says has a text; and a run is what its tree says.
-use Rattle.std.proofs.Common.{◌≡◌, ℕ, suc, ◌+◌, ◌<◌, true, Bool, List, [], ◌∷◌, length, map, None, refl, sym, ap, ◌∙◌, arith}
+use Rattle.std.proofs.Common.{◌≡◌, ℕ, suc, ◌+◌, ◌<◌, true, Bool, List, [], ◌∷◌, length, map, None, refl, sym, ap, ◌∙◌}
+use Rattle.std.proofs.Common.{arith}
 use Rattle.std.specs.Prelude.{◌&&◌, nat_le}
 use Rattle.std.specs.Ordering.{nat_cmp}
 use Rattle.std.specs.Cmp.{nat_cmp_total}
@@ -7,8 +8,8 @@ use Rattle.std.specs.FinMap.{entries, from_entries, get-from_entries, get-entrie
 use Rattle.heap_formula.specs.Words.{Each}
 use Rattle.heap_formula.specs.Cells.{Cells}
 use Rattle.rule_table.specs.Tests.{is_universal_heap}
-use Rattle.refuting_runs.specs.declared.picks.Pick.{Pick}
-use Rattle.refuting_runs.specs.declared.picks.Pick.TheVariants.{Cell as CellPicked, Jumps}
+use Rattle.general_models.specs.declared.runs.picks.Pick.{Pick}
+use Rattle.general_models.specs.declared.runs.picks.Pick.TheVariants.{Cell as CellPicked, Jumps}
 use Rattle.cyc_lex.specs.declared.fault.What.TheVariants.{Arguments}
 use Rattle.cyc_lex.proofs.BoolParts.{and-parts}
 use Rattle.cyc_grammar.specs.Syntax.{Class, one, after, fits_many}
@@ -20,20 +21,20 @@ use Rattle.heap_reader.specs.Flaws.{over_if, or_later, listed_flaw}
 use Rattle.heap_reader.specs.Values.{heap_value}
 use Rattle.heap_reader.proofs.NoFlaw.{neither, none_later, not_over, positive}
 use Rattle.heap_reader.proofs.Members.{behind_fit}
-use Rattle.line_reader.specs.Values.{program_value}
-use Rattle.pred_syntax.specs.Grammar.{definition}
-use Rattle.pred_reader.specs.declared.scope.Scope.TheVariants.{Outside}
-use Rattle.pred_reader.specs.Spans.{definition_span}
-use Rattle.pred_reader.specs.Flaws.{headings, definition_flaw}
-use Rattle.pred_reader.specs.Values.{term_value, definition_value}
-use Rattle.pred_reader.specs.Written.{definition_tree}
-use Rattle.pred_reader.proofs.TreesAgain.{listed_again, found_name, heap_again, definition_again}
-use Rattle.pred_reader.proofs.ValuesAgain.{each_known, found_place, heap_known, definition_known, definitions_fit}
+use Rattle.heap_reader.specs.LineValues.{program_value}
+use Rattle.heap_syntax.specs.DefinitionGrammar.{definition}
+use Rattle.heap_reader.specs.declared.definitions.scope.Scope.TheVariants.{Outside}
+use Rattle.heap_reader.specs.DefinitionSpans.{definition_span}
+use Rattle.heap_reader.specs.DefinitionFlaws.{headings, definition_flaw}
+use Rattle.heap_reader.specs.DefinitionValues.{term_value, definition_value}
+use Rattle.heap_reader.specs.Written.{definition_tree}
+use Rattle.heap_reader.proofs.TreesAgain.{listed_again, found_name, heap_again, definition_again}
+use Rattle.heap_reader.proofs.ValuesAgain.{each_known, found_place, heap_known, definition_known, definitions_fit}
 use Rattle.proof_file.specs.Building.{front_of}
 use Rattle.proof_file.specs.Flaws.{first_line}
 use Rattle.proof_file.proofs.ReadableNodes.{nodes_readable}
-use Rattle.model_syntax.specs.Trees.{Cell}
-use Rattle.model_syntax.specs.Grammar.{numbers, values, cell, cells1, cells, state, from_cell, to_cell}
+use Rattle.model_file.specs.Trees.{Cell}
+use Rattle.model_file.specs.Grammar.{numbers, values, cell, cells1, cells, state, from_cell, to_cell}
 use Rattle.model_file.specs.Flaws.{stack_flaw, fields_flaw, cells_flaw}
 use Rattle.model_file.specs.Values.{cells_value}
 use Rattle.model_file.specs.Small.{IsSmallCell, IsShortNumber, IsShortCell}
@@ -45,7 +46,8 @@ use Rattle.run_file.specs.Trees.{Run}
 use Rattle.run_file.specs.Grammar.{state_claimed, claim, claim_of, pick, picks1, picks, course, body, run}
 use Rattle.run_file.specs.Fits.{file_of, in_file}
 use Rattle.run_file.specs.Spans.{pick_span}
-use Rattle.run_file.specs.Flaws.{pick_flaw, picks_flaw, from_place, first_value, first_cell, first_pick, front_flaw, claim_flaw, state_given_flaw, run_flaw}
+use Rattle.run_file.specs.Flaws.{pick_flaw, picks_flaw, from_place, first_value, first_cell, first_pick, front_flaw}
+use Rattle.run_file.specs.Flaws.{claim_flaw, state_given_flaw, run_flaw}
 use Rattle.run_file.specs.Small.{IsShortPick}
 use Rattle.run_file.specs.Written.{tree_of}
 use Rattle.run_file.specs.Reading.{IsRunOf}
@@ -68,30 +70,36 @@ unfolding cells cells1 shared.listed
 all_fit [] f = (tt, tt)
 all_fit (c ∷ cs) f = (tt, (omega arith, (f.0, fit_behind cs f.1)))
 
-each_tree : (Q : Cell → Type 0) (es : List (ℕ × List ℕ)) → Each (λ (e : ℕ × List ℕ). Q (to_cell e)) es → Each Q (map to_cell es)
+each_tree : (Q : Cell → Type 0) (es : List (ℕ × List ℕ)) → Each (λ (e : ℕ × List ℕ). Q (to_cell e)) es
+    → Each Q (map to_cell es)
 each_tree Q [] all = tt
 each_tree Q (e ∷ es) all = (all.0, each_tree Q es all.1)
 
 -- the cells of a heap fit where those that it was made of do
 sorted_fit : (cs : List Cell) → cells.fits cs → cells.fits (cells_tree (cells_value cs))
 sorted_fit cs f =
-    all_fit (cells_tree (cells_value cs)) (each_tree cell.fits (entries (cells_value cs)) (each_entry (λ (e : ℕ × List ℕ). cell.fits (to_cell e)) (map from_cell cs) (of_entries cell.fits cs (each_fits cs f))))
+    all_fit (cells_tree (cells_value cs)) (each_tree cell.fits (entries (cells_value cs))
+    (each_entry (λ (e : ℕ × List ℕ). cell.fits (to_cell e)) (map from_cell cs)
+    (of_entries cell.fits cs (each_fits cs f))))
 
 -- ---- picks without a flaw have none wherever they stand
 
 fields_moved : (k j : ℕ) (vs : List ℕ) → fields_flaw k vs ≡ None → fields_flaw j vs ≡ None
-fields_moved k j vs e = ap (λ (b : Bool). over_if b Arguments (j + 16)) (not_over (nat_le 9 (length vs)) Arguments (k + 16) e)
+fields_moved k j vs e = ap (λ (b : Bool). over_if b Arguments (j + 16))
+    (not_over (nat_le 9 (length vs)) Arguments (k + 16) e)
 
 pick_moved : (k j : ℕ) (p : Pick) → pick_flaw k p ≡ None → pick_flaw j p ≡ None
 pick_moved k j (CellPicked a vs) e = fields_moved (k + 3) (j + 3) vs e
 pick_moved k j (Jumps b) e = refl
 
-picks_moved : (n k j : ℕ) (ps : List Pick) → listed_flaw (λ n. pick_flaw) pick_span n k ps ≡ None → listed_flaw (λ n. pick_flaw) pick_span n j ps ≡ None
+picks_moved : (n k j : ℕ) (ps : List Pick) → listed_flaw (λ n. pick_flaw) pick_span n k ps ≡ None
+    → listed_flaw (λ n. pick_flaw) pick_span n j ps ≡ None
 picks_moved n k j [] e = refl
 picks_moved n k j (p ∷ ps) e =
     let rest = λ (i : ℕ). listed_flaw (λ n. pick_flaw) pick_span (suc n) (i + pick_span p) ps in
     let both = neither (pick_flaw k p) (rest k) e in
-    none_later (pick_flaw j p) (rest j) (pick_moved k j p both.0) (picks_moved (suc n) (k + pick_span p) (j + pick_span p) ps both.1)
+    none_later (pick_flaw j p) (rest j) (pick_moved k j p both.0)
+    (picks_moved (suc n) (k + pick_span p) (j + pick_span p) ps both.1)
 
 -- ---- the tree with its cells in order
 
@@ -111,24 +119,30 @@ sorted_flawless r e =
     none_later (front_flaw s) (or_later (claim_flaw s) (or_later (state_given_flaw s) picks)) parts.front
     (none_later (claim_flaw s) (or_later (state_given_flaw s) picks) parts.claim
     (none_later (state_given_flaw s) picks
-    (none_later (stack_flaw (first_value s) s.stack) (cells_flaw (first_cell s) s.cells) parts.stack (sorted_right r.cells (first_cell r) fine.0 fine.1))
+    (none_later (stack_flaw (first_value s) s.stack) (cells_flaw (first_cell s) s.cells) parts.stack
+    (sorted_right r.cells (first_cell r) fine.0 fine.1))
     (picks_moved 0 (first_pick r) (first_pick s) r.picks parts.picks)))
 
 -- the values of a tree without a flaw have the tree in order
-pub tree_again : (r : Run) → run_flaw r ≡ None → tree_of (map (definition_value (headings r.definitions)) r.definitions) (program_value r.lines) r.line (heap_value term_value (headings r.definitions) r.precondition) r.stack (cells_value r.cells) r.picks r.outcome ≡ sorted r
+pub tree_again : (r : Run) → run_flaw r ≡ None → tree_of (map (definition_value (headings r.definitions)) r.definitions)
+    (program_value r.lines) r.line (heap_value term_value (headings r.definitions) r.precondition) r.stack
+    (cells_value r.cells) r.picks r.outcome ≡ sorted r
 tree_again r e =
     let ds = r.definitions in
     let hs = headings ds in
     let vs = map (definition_value hs) ds in
     let parts = faultless r e in
-    let definitions = listed_again (definition_flaw 32 hs) definition_span (definition_value hs) (definition_tree vs) (definition_again 32 hs vs (found_name hs ds)) 0 4 ds parts.definitions in
+    let definitions = listed_again (definition_flaw 32 hs) definition_span (definition_value hs) (definition_tree vs)
+    (definition_again 32 hs vs (found_name hs ds)) 0 4 ds parts.definitions in
     let lines = lines_again (length r.lines) 0 (first_line (front_of Two ds r.lines)) r.lines parts.program in
-    let precondition = heap_again 32 hs vs (found_name hs ds) Outside (from_place r + 3) r.precondition parts.precondition in
+    let precondition = heap_again 32 hs vs (found_name hs ds) Outside (from_place r + 3)
+    r.precondition parts.precondition in
     λ i. record (sorted r) { definitions = definitions i; lines = lines i; precondition = precondition i }
 
 -- ---- no existential variable stands in the precondition
 
-pub state_universal : (r : Run) → run.fits r → is_universal_heap (heap_value term_value (headings r.definitions) r.precondition) ≡ true
+pub state_universal : (r : Run) → run.fits r → is_universal_heap
+    (heap_value term_value (headings r.definitions) r.precondition) ≡ true
 unfolding run body
 state_universal r f =
     let state = heap_value term_value (headings r.definitions) r.precondition in
@@ -142,7 +156,8 @@ entries_again [] = refl
 entries_again (e ∷ es) = ap (λ fs. e ∷ fs) (entries_again es)
 
 heap_is : (h : Cells) → from_entries {R = nat_cmp} (entries h) ≡ h
-heap_is h = same_map nat_cmp_total nat_cmp-IsAntisymmetric _ _ (λ q. get-from_entries nat_cmp_total (entries h) q ∙ sym (get-entries h q))
+heap_is h = same_map nat_cmp_total nat_cmp-IsAntisymmetric _ _
+    (λ q. get-from_entries nat_cmp_total (entries h) q ∙ sym (get-entries h q))
 
 abbrev pub tree_of_run : RunFile → Run
 tree_of_run r = tree_of r.defs.list r.program r.line r.precondition r.stack r.heap r.picks.items r.outcome
@@ -157,7 +172,8 @@ run_known r =
     let placed = found_place 32 ds parts.definitions in
     record {
       most = r.limit;
-      definitions = sym (each_known (definition_tree ds) (definition_value hs) definition.fits (definition_known ds hs placed) ds (definitions_fit tree.definitions r.fits.1.0.0));
+      definitions = sym (each_known (definition_tree ds) (definition_value hs) definition.fits
+          (definition_known ds hs placed) ds (definitions_fit tree.definitions r.fits.1.0.0));
       program = sym (commands_known 0 r.program r.universal);
       line = refl;
       precondition = sym (heap_known ds hs placed true r.precondition r.fits.1.0.1.1.1);
@@ -205,7 +221,8 @@ unfolding picks picks1 shared.listed
 short_picks [] f = tt
 short_picks (p ∷ ps) f = (short_pick p f.1.1.0, short_picks_behind ps (behind_fit comma pick ps f.1.1.1))
 
-pub run_short : (r : Run) → run.fits r → Each IsShortNumber r.stack × Each IsShortCell r.cells × Each IsShortPick r.picks
+pub run_short : (r : Run) → run.fits r → Each IsShortNumber r.stack × Each IsShortCell r.cells
+    × Each IsShortPick r.picks
 unfolding run body course state
 run_short r f =
     (short_values r.stack f.1.1.0.0, each_short r.cells (each_fits r.cells f.1.1.0.1), short_picks r.picks f.1.1.1.0)
@@ -217,7 +234,10 @@ some_field c f = f.1.1.0
 
 each_small : (cs : List Cell) → Each cell.fits cs → Each IsFine cs → Each IsSmallCell cs
 each_small [] f g = tt
-each_small (c ∷ cs) f g = (record { positive = positive c.address g.0.positive; some = some_field c f.0 }, each_small cs f.1 g.1)
+each_small (c ∷ cs) f g = (
+  record { positive = positive c.address g.0.positive; some = some_field c f.0 },
+  each_small cs f.1 g.1,
+)
 
 pub run_small : (r : Run) → run.fits r → run_flaw r ≡ None → Each IsSmallCell r.cells
 unfolding run body course state

@@ -1,36 +1,39 @@
 -- The spans count the words of the grammar, so each flaw's number is that of the token at which it stands.
 use Rattle.std.proofs.Common.{◌≡◌, ℕ, ◌+◌, true, false, List, [], ◌∷◌, ◌++◌, length, refl, ◌∙◌, arith, length-append}
-use Rattle.refuting_runs.specs.declared.picks.Pick.{Pick}
-use Rattle.refuting_runs.specs.declared.picks.Pick.TheVariants.{Cell as CellPicked, Jumps}
+use Rattle.general_models.specs.declared.runs.picks.Pick.{Pick}
+use Rattle.general_models.specs.declared.runs.picks.Pick.TheVariants.{Cell as CellPicked, Jumps}
 use Rattle.cyc_grammar.specs.Syntax.{Class, one, words_many}
 use Rattle.cyc_grammar.specs.Classes.{number, the_end}
 use Rattle.heap_syntax.specs.Words.{comma, semicolon, closing, last_word}
 use Rattle.heap_syntax.specs.declared.version.Version.TheVariants.{Two}
 use Rattle.heap_reader.specs.Spans.{total, heap_span}
 use Rattle.heap_reader.proofs.SpanLaws.{listed_words, alone}
-use Rattle.line_reader.specs.Spans.{line_span}
-use Rattle.line_reader.proofs.SpanLaws.{lines_words}
-use Rattle.pred_syntax.specs.Trees.{Heap, Definition}
-use Rattle.pred_syntax.specs.Grammar.{terms, heap, definition, definitions}
-use Rattle.pred_reader.specs.Spans.{term_span, definition_span}
-use Rattle.pred_reader.proofs.SpanLaws.{heap_words, definition_words}
+use Rattle.heap_reader.specs.LineSpans.{line_span}
+use Rattle.heap_reader.proofs.LineSpanLaws.{lines_words}
+use Rattle.heap_syntax.specs.DefinitionTrees.{Heap, Definition}
+use Rattle.heap_syntax.specs.DefinitionGrammar.{terms, heap, definition, definitions}
+use Rattle.heap_reader.specs.DefinitionSpans.{term_span, definition_span}
+use Rattle.heap_reader.proofs.DefinitionSpanLaws.{heap_words, definition_words}
 use Rattle.proof_syntax.specs.Trees.{Line}
 use Rattle.proof_syntax.specs.Grammar.{variable, lines}
 use Rattle.proof_file.specs.Spans.{variable_span}
 use Rattle.proof_file.proofs.SpanLaws.{variable_words}
-use Rattle.model_syntax.specs.Trees.{Cell}
-use Rattle.model_syntax.specs.Grammar.{heap_word, numbers, values, cell, some_cell, cells1, cells, state}
+use Rattle.model_file.specs.Trees.{Cell}
+use Rattle.model_file.specs.Grammar.{heap_word, numbers, values, cell, some_cell, cells1, cells, state}
 use Rattle.model_file.specs.Spans.{numbers_span, values_span, cell_span, cells_span}
 use Rattle.run_file.specs.declared.tree.Outcome.{Outcome}
 use Rattle.run_file.specs.declared.tree.Outcome.TheVariants.{Faults, Repeats}
 use Rattle.run_file.specs.Trees.{Run}
-use Rattle.run_file.specs.Grammar.{picks_word, state_claimed, claim, claim_of, pick, some_pick, picks1, picks, then_step, faulting, repeating, outcome, ending, course, course_of, body, run}
+use Rattle.run_file.specs.Grammar.{picks_word, state_claimed, claim, claim_of, pick, some_pick, picks1, picks}
+use Rattle.run_file.specs.Grammar.{then_step, faulting, repeating, outcome, ending, course, course_of, body, run}
 use Rattle.run_file.specs.Spans.{pick_span, picks_span}
 use Rattle.run_file.specs.Flaws.{outcome_place}
 
 -- ---- the claim
 
-claim_words : (ds : List Definition) (ls : List Line) (n : ℕ) (h : Heap) → claim.fits (ds, (ls, (n, h))) → length (claim.words (ds, (ls, (n, h)))) ≡ total definition_span ds + total (line_span variable_span) ls + (3 + heap_span term_span h)
+claim_words : (ds : List Definition) (ls : List Line) (n : ℕ) (h : Heap) → claim.fits (ds, (ls, (n, h)))
+    → length (claim.words (ds, (ls, (n, h)))) ≡ total definition_span ds + total (line_span variable_span) ls +
+    (3 + heap_span term_span h)
 unfolding claim state_claimed definitions
 claim_words ds ls n h fit =
     let a = alone (λ w. true) definition definition_span definition_words ds fit.0 in
@@ -47,7 +50,8 @@ twice : (ns : List ℕ) → total (λ n. 2) ns ≡ numbers_span ns
 twice [] = refl
 twice (n ∷ ns) = let r = twice ns in omega arith
 
-numbers_words : (behind : Class (Unit {0})) (ns : List ℕ) → (numbers behind).fits ns → length ((numbers behind).words ns) ≡ numbers_span ns
+numbers_words : (behind : Class (Unit {0})) (ns : List ℕ) → (numbers behind).fits ns
+    → length ((numbers behind).words ns) ≡ numbers_span ns
 unfolding numbers
 numbers_words behind ns f = listed_words 0 comma behind (one number) (λ n. 2) (λ n g. refl) ns f ∙ twice ns
 
@@ -65,7 +69,8 @@ unfolding cells cells1
 cells_words [] f = refl
 cells_words (c ∷ cs) f = listed_words some_cell comma semicolon cell cell_span cell_words (c ∷ cs) f.1
 
-state_words : (s : List ℕ) (cs : List Cell) → state.fits (s, cs) → length (state.words (s, cs)) ≡ 2 + values_span s + cells_span cs
+state_words : (s : List ℕ) (cs : List Cell) → state.fits (s, cs)
+    → length (state.words (s, cs)) ≡ 2 + values_span s + cells_span cs
 unfolding state
 state_words s cs fit =
     let v = values_words s fit.0 in
@@ -91,7 +96,8 @@ unfolding outcome faulting repeating then_step
 outcome_words (Faults l n) = refl
 outcome_words (Repeats m n) = refl
 
-course_words : (s : List ℕ) (cs : List Cell) (ps : List Pick) (o : Outcome) → course.fits ((s, cs), (ps, o)) → length (course.words ((s, cs), (ps, o))) ≡ 3 + values_span s + cells_span cs + picks_span ps + 7
+course_words : (s : List ℕ) (cs : List Cell) (ps : List Pick) (o : Outcome) → course.fits ((s, cs), (ps, o))
+    → length (course.words ((s, cs), (ps, o))) ≡ 3 + values_span s + cells_span cs + picks_span ps + 7
 unfolding course ending
 course_words s cs ps o fit =
     let a = state_words s cs fit.0 in
@@ -103,7 +109,8 @@ course_words s cs ps o fit =
     let e4 = length-append (state.words (s, cs)) (picks_word.word tt ∷ (picks.words ps ++ ending.words o)) in
     omega arith
 
--- the words of a run file: the header, the claim, the stack, the heap, the picks, the outcome, the last statement, and the end
+-- the words of a run file: the header, the claim, the stack, the heap, the picks, the outcome, the last statement, and
+-- the end
 pub run_words : (r : Run) → run.fits r → length (run.words r) ≡ outcome_place r + 9
 unfolding run body
 run_words r fit =

@@ -2,23 +2,24 @@
 use Rattle.std.specs.Prelude.{ℕ, true, false, List, [], ◌∷◌}
 use Rattle.std.proofs.Common.{ap, lit<}
 use Rattle.std.specs.Coded.{×_prop, Unit-prop, le_prop}
-use Rattle.refuting_runs.specs.declared.picks.Pick.TheVariants.{Cell as CellPicked, Jumps}
+use Rattle.general_models.specs.declared.runs.picks.Pick.TheVariants.{Cell as CellPicked, Jumps}
 use Rattle.cyc_grammar.specs.Syntax.{one}
 use Rattle.cyc_grammar.specs.Classes.{number}
 use Rattle.heap_syntax.specs.Words.{comma, semicolon, closing}
 use Rattle.heap_syntax.specs.declared.version.Version.TheVariants.{Two}
 use Rattle.heap_syntax.specs.Grammar as shared
-use Rattle.pred_syntax.specs.Fits.{HasOneFit, listed-fit}
-use Rattle.pred_syntax.specs.Trees.{Heap, Definition}
-use Rattle.pred_syntax.specs.Grammar.{definitions}
+use Rattle.heap_syntax.specs.Fits.{HasOneFit, listed-fit}
+use Rattle.heap_syntax.specs.DefinitionTrees.{Heap, Definition}
+use Rattle.heap_syntax.specs.DefinitionGrammar.{definitions}
 use Rattle.proof_syntax.specs.Trees.{Line, File, From, Done}
 use Rattle.proof_syntax.specs.Grammar as proofs
 use Rattle.proof_file.specs.Fits.{file-fit}
-use Rattle.model_syntax.specs.Trees.{Cell, Model}
-use Rattle.model_syntax.specs.Grammar as models
+use Rattle.model_file.specs.Trees.{Cell, Model}
+use Rattle.model_file.specs.Grammar as models
 use Rattle.model_file.specs.Fits.{model-fit}
 use Rattle.run_file.specs.declared.tree.Outcome.TheVariants.{Faults, Repeats}
-use Rattle.run_file.specs.Grammar.{state_claimed, claim, claim_of, pick, some_pick, picks1, picks, then_step, faulting, repeating, outcome, ending, course, body, run}
+use Rattle.run_file.specs.Grammar.{state_claimed, claim, claim_of, pick, some_pick, picks1, picks, then_step, faulting}
+use Rattle.run_file.specs.Grammar.{repeating, outcome, ending, course, body, run}
 
 -- ---- the claim, as that of a proof file with one node
 
@@ -31,11 +32,13 @@ file_of c = record {
 }
 
 unfoldable pub in_file : (c : List Definition × (List Line × (ℕ × Heap))) → claim.fits c → proofs.file.fits (file_of c)
-unfolding claim state_claimed proofs.file proofs.body proofs.nodes proofs.more_nodes proofs.node proofs.judgement proofs.state proofs.reason proofs.parts proofs.premises
+unfolding claim state_claimed proofs.file proofs.body proofs.nodes proofs.more_nodes proofs.node proofs.judgement
+    proofs.state proofs.reason proofs.parts proofs.premises
 in_file c p = (tt, (tt, (p.0, (p.1.0, (lit< tt, ((tt, ((tt, p.1.1), ((tt, (tt, tt)), (tt, tt)))), tt))))))
 
 unfoldable of_file : (c : List Definition × (List Line × (ℕ × Heap))) → proofs.file.fits (file_of c) → claim.fits c
-unfolding claim state_claimed proofs.file proofs.body proofs.nodes proofs.more_nodes proofs.node proofs.judgement proofs.state proofs.reason proofs.parts proofs.premises
+unfolding claim state_claimed proofs.file proofs.body proofs.nodes proofs.more_nodes proofs.node proofs.judgement
+    proofs.state proofs.reason proofs.parts proofs.premises
 of_file c f = (f.1.1.0, (f.1.1.1.0, f.1.1.1.1.1.0.1.0.1))
 
 claim-fit : HasOneFit claim
@@ -63,7 +66,8 @@ state-fit s p q = ap (of_model s) (model-fit (model_of s) (in_model s p) (in_mod
 
 pick-fit : HasOneFit pick
 unfolding pick models.cell models.numbers
-pick-fit (CellPicked a vs) = ×_prop Unit-prop (×_prop Unit-prop (×_prop le_prop (listed-fit 0 comma closing (one number) (λ n. le_prop) vs)))
+pick-fit (CellPicked a vs) = ×_prop Unit-prop (×_prop Unit-prop
+    (×_prop le_prop (listed-fit 0 comma closing (one number) (λ n. le_prop) vs)))
 pick-fit (Jumps true) = ×_prop Unit-prop Unit-prop
 pick-fit (Jumps false) = ×_prop Unit-prop Unit-prop
 
@@ -82,4 +86,5 @@ outcome-fit (Repeats m n) = ×_prop Unit-prop (×_prop le_prop le_prop)
 pub run-fit : HasOneFit run
 unfolding run body course ending
 run-fit r =
-    ×_prop Unit-prop (×_prop (claim-fit (claim_of r)) (×_prop (state-fit (r.stack, r.cells)) (×_prop (picks-fit r.picks) (outcome-fit r.outcome))))
+    ×_prop Unit-prop (×_prop (claim-fit (claim_of r)) (×_prop (state-fit (r.stack, r.cells))
+    (×_prop (picks-fit r.picks) (outcome-fit r.outcome))))

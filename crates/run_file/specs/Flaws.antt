@@ -1,13 +1,13 @@
 -- The first flaw of a run file that the grammar has: what is ill-formed or passes a limit, and at which token.
 use Rattle.std.specs.Prelude.{ℕ, ◌+◌, List, length, None}
-use Rattle.cyc_limits.specs.declared.TheConstants.{MOST_SPATIAL}
-use Rattle.refuting_runs.specs.declared.picks.Pick.{Pick}
-use Rattle.refuting_runs.specs.declared.picks.Pick.TheVariants.{Cell, Jumps}
+use Rattle.cyc_basics.specs.declared.limits.TheConstants.{MOST_SPATIAL}
+use Rattle.general_models.specs.declared.runs.picks.Pick.{Pick}
+use Rattle.general_models.specs.declared.runs.picks.Pick.TheVariants.{Cell, Jumps}
 use Rattle.heap_syntax.specs.declared.version.Version.TheVariants.{Two}
 use Rattle.heap_reader.specs.Spans.{heap_span}
 use Rattle.heap_reader.specs.Flaws.{Found, or_later, listed_flaw}
-use Rattle.pred_reader.specs.Spans.{term_span}
-use Rattle.pred_reader.specs.Flaws.{headings}
+use Rattle.heap_reader.specs.DefinitionSpans.{term_span}
+use Rattle.heap_reader.specs.DefinitionFlaws.{headings}
 use Rattle.proof_file.specs.Building.{front_of}
 use Rattle.proof_file.specs.Flaws.{state_flaw, first_node, file_flaw}
 use Rattle.model_file.specs.Spans.{values_span, cells_span}
@@ -58,4 +58,5 @@ state_given_flaw r = or_later (stack_flaw (first_value r) r.stack) (cells_flaw (
 
 abbrev pub run_flaw : Run → Found
 run_flaw r =
-    or_later (front_flaw r) (or_later (claim_flaw r) (or_later (state_given_flaw r) (picks_flaw (first_pick r) r.picks)))
+    or_later (front_flaw r) (or_later (claim_flaw r) (or_later (state_given_flaw r)
+    (picks_flaw (first_pick r) r.picks)))

@@ -3,19 +3,19 @@ use Rattle.std.specs.Prelude.{ℕ, true, false, List, ◌⊎◌, codes}
 use Rattle.std.proofs.Common.{inl, inr}
 use Rattle.cyc_grammar.specs.Syntax.{Syntax, Class, one, seq, alt, shaped, after, before, is_one, or_empty}
 use Rattle.cyc_grammar.specs.Classes.{keyword, the_end, number}
-use Rattle.refuting_runs.specs.declared.picks.Pick.{Pick}
-use Rattle.refuting_runs.specs.declared.picks.Pick.TheVariants.{Cell as CellPicked, Jumps}
+use Rattle.general_models.specs.declared.runs.picks.Pick.{Pick}
+use Rattle.general_models.specs.declared.runs.picks.Pick.TheVariants.{Cell as CellPicked, Jumps}
 use Rattle.heap_syntax.specs.Words.{cyclist_word, from_word, given_word, comma, semicolon, last_word}
 use Rattle.heap_syntax.specs.Versions.{first_version}
 use Rattle.heap_syntax.specs.declared.version.Version.TheVariants.{Two}
 use Rattle.heap_syntax.specs.Grammar.{Any, listed}
-use Rattle.pred_syntax.specs.Grammar.{terms, heap, definitions}
-use Rattle.pred_syntax.specs.Trees.{Heap, Definition}
-use Rattle.command_syntax.specs.Grammar.{line_word}
+use Rattle.heap_syntax.specs.DefinitionGrammar.{terms, heap, definitions}
+use Rattle.heap_syntax.specs.DefinitionTrees.{Heap, Definition}
+use Rattle.heap_syntax.specs.LineGrammar.{line_word}
 use Rattle.proof_syntax.specs.Grammar.{lines}
 use Rattle.proof_syntax.specs.Trees.{Line}
-use Rattle.model_syntax.specs.Grammar.{cell, state}
-use Rattle.model_syntax.specs.Trees.{Cell}
+use Rattle.model_file.specs.Grammar.{cell, state}
+use Rattle.model_file.specs.Trees.{Cell}
 use Rattle.run_file.specs.declared.tree.Outcome.{Outcome}
 use Rattle.run_file.specs.declared.tree.Outcome.TheVariants.{Faults, Repeats}
 use Rattle.run_file.specs.Trees.{Run}
@@ -64,7 +64,8 @@ from_pick (Jumps true) = inr (inl tt)
 from_pick (Jumps false) = inr (inr tt)
 
 unfoldable pub pick : Syntax Pick
-pick = shaped {A = Cell ⊎ (Unit {0} ⊎ Unit {0})} to_pick from_pick Any (alt (is_one number) cell (alt (is_one jump_word) (one jump_word) (one next_word)))
+pick = shaped {A = Cell ⊎ (Unit {0} ⊎ Unit {0})} to_pick from_pick Any
+    (alt (is_one number) cell (alt (is_one jump_word) (one jump_word) (one next_word)))
 
 abbrev pub some_pick : Pick
 some_pick = Jumps true
@@ -136,7 +137,8 @@ abbrev pub from_run : Run → Parts
 from_run r = (claim_of r, course_of r)
 
 unfoldable pub body : Syntax Run
-body = shaped {A = Parts} to_run from_run Any (after cyclist_word (after run_word (after first_version (after semicolon (seq claim (before course semicolon))))))
+body = shaped {A = Parts} to_run from_run Any (after cyclist_word
+    (after run_word (after first_version (after semicolon (seq claim (before course semicolon))))))
 
 unfoldable pub run : Syntax Run
 run = before body the_end

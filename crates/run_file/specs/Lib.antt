@@ -6,3 +6,6 @@ pub mod Small
 pub mod Fits
 pub mod Written
 pub mod Reading
+pub mod Limits
+pub mod Places
+pub mod Runs

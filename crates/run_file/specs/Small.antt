@@ -1,6 +1,6 @@
 -- Picks that a text may name.
-use Rattle.refuting_runs.specs.declared.picks.Pick.{Pick}
-use Rattle.refuting_runs.specs.declared.picks.Pick.TheVariants.{Cell, Jumps}
+use Rattle.general_models.specs.declared.runs.picks.Pick.{Pick}
+use Rattle.general_models.specs.declared.runs.picks.Pick.TheVariants.{Cell, Jumps}
 use Rattle.model_file.specs.Small.{IsShortCell}
 
 -- its numbers have at most nine digits

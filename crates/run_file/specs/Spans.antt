@@ -1,7 +1,7 @@
 -- How many tokens the picks of a run file have, the one token after a part counted in.
 use Rattle.std.specs.Prelude.{ℕ, ◌+◌, List}
-use Rattle.refuting_runs.specs.declared.picks.Pick.{Pick}
-use Rattle.refuting_runs.specs.declared.picks.Pick.TheVariants.{Cell, Jumps}
+use Rattle.general_models.specs.declared.runs.picks.Pick.{Pick}
+use Rattle.general_models.specs.declared.runs.picks.Pick.TheVariants.{Cell, Jumps}
 use Rattle.heap_reader.specs.Spans.{total_or}
 use Rattle.model_file.specs.Spans.{numbers_span}
 

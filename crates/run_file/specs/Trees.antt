@@ -1,10 +1,10 @@
 -- Trees without where they lie in memory. A pick is what a run takes.
 use Rattle.std.specs.Prelude.{ℕ, List, map}
-use Rattle.refuting_runs.specs.declared.picks.Pick.{Pick}
-use Rattle.refuting_runs.specs.declared.picks.Pick.TheVariants as picks
-use Rattle.pred_syntax.specs.Trees.{Heap, Definition, heap_of, definition_of}
+use Rattle.general_models.specs.declared.runs.picks.Pick.{Pick}
+use Rattle.general_models.specs.declared.runs.picks.Pick.TheVariants as picks
+use Rattle.heap_syntax.specs.DefinitionTrees.{Heap, Definition, heap_of, definition_of}
 use Rattle.proof_syntax.specs.Trees.{Line}
-use Rattle.model_syntax.specs.Trees.{Cell, cell_of}
+use Rattle.model_file.specs.Trees.{Cell, cell_of}
 use Rattle.run_file.specs.declared.tree.PickTree.{PickTree}
 use Rattle.run_file.specs.declared.tree.PickTree.TheVariants.{Cell as CellPicked, Jumps}
 use Rattle.run_file.specs.declared.tree.Outcome.{Outcome}

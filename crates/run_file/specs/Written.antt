@@ -1,12 +1,13 @@
--- What is written of a run: its values as a tree, predicates by their names, the cells of the heap by ascending addresses.
+-- What is written of a run: its values as a tree, predicates by their names, the cells of the heap by ascending
+-- addresses.
 use Rattle.std.specs.Prelude.{ℕ, List, map}
 use Rattle.cyc_lex.specs.Spacing.{text_of}
 use Rattle.heap_formula.specs.declared.commands.Command.{Command}
 use Rattle.heap_formula.specs.Cells.{Cells}
 use Rattle.heap_formula.specs.Definitions.{Definition as DefinitionValue}
 use Rattle.heap_formula.specs.Symbolic.{SymbolicHeap}
-use Rattle.refuting_runs.specs.declared.picks.Pick.{Pick}
-use Rattle.pred_reader.specs.Written.{heap_tree, definition_tree}
+use Rattle.general_models.specs.declared.runs.picks.Pick.{Pick}
+use Rattle.heap_reader.specs.Written.{heap_tree, definition_tree}
 use Rattle.proof_file.specs.Written.{lines_tree}
 use Rattle.model_file.specs.Written.{cells_tree}
 use Rattle.run_file.specs.declared.tree.Outcome.{Outcome}
@@ -27,5 +28,6 @@ tree_of ds cs i a stack h ps o = record {
 }
 
 -- their text
-abbrev pub text_of_run : List DefinitionValue → List Command → ℕ → SymbolicHeap → List ℕ → Cells → List Pick → Outcome → List ℕ
+abbrev pub text_of_run : List DefinitionValue → List Command → ℕ → SymbolicHeap → List ℕ → Cells → List Pick → Outcome
+    → List ℕ
 text_of_run ds cs i a stack h ps o = text_of (body.words (tree_of ds cs i a stack h ps o))

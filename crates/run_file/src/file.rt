@@ -1,6 +1,6 @@
 // Runs as values.
 ghost use Rattle.std.specs.Prelude.{◌≡◌, ◌<◌, ◌≤◌, None, length, true};
-ghost use Rattle.cyc_limits.specs.declared.TheConstants.{MOST_SPATIAL};
+ghost use Rattle.cyc_basics.specs.declared.limits.TheConstants.{MOST_SPATIAL};
 ghost use Rattle.rule_table.specs.Tests.{is_universal_heap};
 ghost use Rattle.proof_file.specs.Readable.{are_universal_commands};
 ghost use Rattle.run_file.specs.Grammar.{run};
@@ -9,16 +9,16 @@ ghost use Rattle.run_file.specs.Fits.{run-fit};
 ghost use Rattle.run_file.specs.Written.{tree_of};
 
 use crate::tree::Outcome;
+use general_models::runs::Pick;
 use goto_lang::{Cells, Program, Stack};
 use heap_formula::Heap;
 use pred_defs::Defs;
-use refuting_runs::Pick;
 
 /// A run file: definitions, a program and a claim of termination, that from this line the program halts given the
-/// precondition; a stack, a heap, what is picked in order at each `new` and each `if *`, and how the run from there ends.
-/// Whether it ends so is not said. The value of `$n` in the precondition is entry n of the stack, 0 past its end. The line is
-/// one of the program's, and no existential variable stands in the program and in the precondition. The file has a text: its
-/// tree, in which the cells of the heap ascend, fits the grammar, and has no flaw.
+/// precondition; a stack, a heap, what is picked in order at each `new` and each `if *`, and how the run from there
+/// ends. Whether it ends so is not said. The value of `$n` in the precondition is entry n of the stack, 0 past its end.
+/// The line is one of the program's, and no existential variable stands in the program and in the precondition. The
+/// file has a text: its tree, in which the cells of the heap ascend, fits the grammar, and has no flaw.
 #[derive(Drop)]
 pub struct RunFile {
     pub defs: Defs,

@@ -4,17 +4,17 @@ ghost use Rattle.std.specs.Prelude.{◌≡◌, map, OnOk};
 ghost use Rattle.cyc_lex.specs.Writing.{write_all};
 ghost use Rattle.cyc_grammar.specs.Classes.{symbol};
 ghost use Rattle.cyc_grammar.specs.Giving.{Gives};
-ghost use Rattle.model_syntax.specs.Grammar.{numbers, values, cell, cells};
-ghost use Rattle.model_syntax.specs.Trees.{cell_of};
+ghost use Rattle.model_file.specs.Grammar.{numbers, values, cell, cells};
+ghost use Rattle.model_file.specs.Trees.{cell_of};
 ghost use Rattle.run_file.specs.Grammar.{pick, picks};
 ghost use Rattle.run_file.specs.Trees.{pick_of};
 
 use crate::lists::{Item, listed, listed_or_none, write_listed, write_listed_or_none};
 use crate::tree::PickTree;
+use cyc_basics::memory::OutOfMemory;
 use cyc_grammar::{Cursor, Refusal};
 use cyc_lex::WordWriter;
-use cyc_memory::OutOfMemory;
-use model_syntax::CellTree;
+use model_file::syntax::CellTree;
 use std::alloc::Global;
 
 /// Numbers.
@@ -47,7 +47,7 @@ impl Item for NumberItem {
 }
 
 /// Reads one number or more, and the symbol after the last.
-#[tactic(auto, unfolding(model_syntax::specs::Grammar::numbers))]
+#[tactic(auto, unfolding(model_file::specs::Grammar::numbers))]
 fn numbers(alloc: Global, behind: &str, cursor: &mut Cursor<'_, '_>) -> Result<Vec<u32>, Refusal>
     ensures { Gives (λ x. (x.items, cursor.new)) result ((numbers (symbol behind.now)).read cursor.old) }
 {
@@ -55,7 +55,7 @@ fn numbers(alloc: Global, behind: &str, cursor: &mut Cursor<'_, '_>) -> Result<V
 }
 
 /// Reads the values of the stack, of which there may be none, and the semicolon.
-#[tactic(auto, unfolding(model_syntax::specs::Grammar::values, model_syntax::specs::Grammar::numbers))]
+#[tactic(auto, unfolding(model_file::specs::Grammar::values, model_file::specs::Grammar::numbers))]
 pub fn values(alloc: Global, cursor: &mut Cursor<'_, '_>) -> Result<Vec<u32>, Refusal>
     ensures { Gives (λ x. (x.items, cursor.new)) result (values.read cursor.old) }
 {
@@ -63,7 +63,7 @@ pub fn values(alloc: Global, cursor: &mut Cursor<'_, '_>) -> Result<Vec<u32>, Re
 }
 
 /// Writes one number or more, and the symbol after the last.
-#[tactic(auto, unfolding(model_syntax::specs::Grammar::numbers))]
+#[tactic(auto, unfolding(model_file::specs::Grammar::numbers))]
 fn write_numbers(behind: &str, trees: &[u32], writer: &mut WordWriter) -> Result<(), OutOfMemory>
     requires { (numbers (symbol behind.now)).fits trees.now }
     ensures { OnOk result (writer.new ≡ write_all writer.old ((numbers (symbol behind.now)).words trees.now)) }
@@ -72,7 +72,7 @@ fn write_numbers(behind: &str, trees: &[u32], writer: &mut WordWriter) -> Result
 }
 
 /// Writes the values of the stack and the semicolon.
-#[tactic(auto, unfolding(model_syntax::specs::Grammar::values, model_syntax::specs::Grammar::numbers))]
+#[tactic(auto, unfolding(model_file::specs::Grammar::values, model_file::specs::Grammar::numbers))]
 pub fn write_values(trees: &[u32], writer: &mut WordWriter) -> Result<(), OutOfMemory>
     requires { values.fits trees.now }
     ensures { OnOk result (writer.new ≡ write_all writer.old (values.words trees.now)) }
@@ -80,7 +80,7 @@ pub fn write_values(trees: &[u32], writer: &mut WordWriter) -> Result<(), OutOfM
     write_listed_or_none(&NumberItem, trees, writer)
 }
 
-#[tactic(auto, unfolding(model_syntax::specs::Grammar::cell))]
+#[tactic(auto, unfolding(model_file::specs::Grammar::cell))]
 fn cell(alloc: Global, cursor: &mut Cursor<'_, '_>) -> Result<CellTree, Refusal>
     ensures { Gives (λ x. (cell_of x, cursor.new)) result (cell.read cursor.old) }
 {
@@ -91,7 +91,7 @@ fn cell(alloc: Global, cursor: &mut Cursor<'_, '_>) -> Result<CellTree, Refusal>
     Ok(CellTree { address, fields })
 }
 
-#[tactic(auto, unfolding(model_syntax::specs::Grammar::cell, cyc_lex::specs::Writing::write_all))]
+#[tactic(auto, unfolding(model_file::specs::Grammar::cell, cyc_lex::specs::Writing::write_all))]
 fn write_cell(tree: &CellTree, writer: &mut WordWriter) -> Result<(), OutOfMemory>
     requires { cell.fits (cell_of tree.now) }
     ensures { OnOk result (writer.new ≡ write_all writer.old (cell.words (cell_of tree.now))) }
@@ -107,8 +107,8 @@ fn write_cell(tree: &CellTree, writer: &mut WordWriter) -> Result<(), OutOfMemor
 struct CellItem;
 
 impl Item for CellItem {
-    ghost use Rattle.model_syntax.specs.Trees.{Cell, cell_of};
-    ghost use Rattle.model_syntax.specs.Grammar as grammar;
+    ghost use Rattle.model_file.specs.Trees.{Cell, cell_of};
+    ghost use Rattle.model_file.specs.Grammar as grammar;
 
     type Tree = CellTree;
 
@@ -130,7 +130,7 @@ impl Item for CellItem {
 }
 
 /// Reads the cells of the heap, of which there may be none, and the semicolon.
-#[tactic(auto, unfolding(model_syntax::specs::Grammar::cells, model_syntax::specs::Grammar::cells1))]
+#[tactic(auto, unfolding(model_file::specs::Grammar::cells, model_file::specs::Grammar::cells1))]
 pub fn cells(alloc: Global, cursor: &mut Cursor<'_, '_>) -> Result<Vec<CellTree>, Refusal>
     ensures { Gives (λ x. (map cell_of x.items, cursor.new)) result (cells.read cursor.old) }
 {
@@ -138,7 +138,7 @@ pub fn cells(alloc: Global, cursor: &mut Cursor<'_, '_>) -> Result<Vec<CellTree>
 }
 
 /// Writes the cells of the heap and the semicolon.
-#[tactic(auto, unfolding(model_syntax::specs::Grammar::cells, model_syntax::specs::Grammar::cells1))]
+#[tactic(auto, unfolding(model_file::specs::Grammar::cells, model_file::specs::Grammar::cells1))]
 pub fn write_cells(trees: &[CellTree], writer: &mut WordWriter) -> Result<(), OutOfMemory>
     requires { cells.fits (map cell_of trees.now) }
     ensures { OnOk result (writer.new ≡ write_all writer.old (cells.words (map cell_of trees.now))) }
@@ -178,7 +178,7 @@ fn write_pick(tree: &PickTree, writer: &mut WordWriter) -> Result<(), OutOfMemor
 struct PickItem;
 
 impl Item for PickItem {
-    ghost use Rattle.refuting_runs.specs.declared.picks.Pick.{Pick};
+    ghost use Rattle.general_models.specs.declared.runs.picks.Pick.{Pick};
     ghost use Rattle.run_file.specs.Trees.{pick_of};
     ghost use Rattle.run_file.specs.Grammar as grammar;
 

@@ -1,5 +1,5 @@
-//! Run files: a claim that a program halts, and a run that is said to refute it. Reading a text, with the exact place of each
-//! fault, and writing one that is read again. Whether the run refutes the claim is not asked here.
+//! Run files: a claim that a program halts, and a run that is said to refute it. Reading a text, with the exact place
+//! of each fault, and writing one that is read again. Whether the run refutes the claim is not asked here.
 #![tactic(auto)]
 
 mod file;
@@ -7,6 +7,7 @@ mod items;
 mod laws;
 mod line_trees;
 mod lists;
+pub mod problems;
 mod read_runs;
 mod reading;
 mod tree;

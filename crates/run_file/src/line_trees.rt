@@ -2,10 +2,10 @@
 ghost use Rattle.std.specs.Prelude.{◌≡◌, IfOk};
 ghost use Rattle.proof_file.specs.Written.{operand_tree, store_tree, command_tree, lines_tree};
 
-use command_syntax::{ChangeTree, CommandTree, OperandTree};
-use cyc_memory::OutOfMemory;
+use cyc_basics::memory::OutOfMemory;
 use goto_lang::Program;
 use heap_formula::{Command, Term};
+use heap_syntax::lines::{ChangeTree, CommandTree, OperandTree};
 use proof_syntax::LineTree;
 use std::alloc::Global;
 

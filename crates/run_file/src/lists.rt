@@ -8,9 +8,9 @@ ghost use Rattle.cyc_grammar.specs.Giving.{Gives, with_front};
 ghost use Rattle.heap_syntax.specs.Words.{comma, semicolon};
 ghost use Rattle.heap_syntax.specs.Grammar.{listed as list_of};
 
+use cyc_basics::memory::OutOfMemory;
 use cyc_grammar::{Cursor, Refusal};
 use cyc_lex::WordWriter;
-use cyc_memory::OutOfMemory;
 use std::alloc::Global;
 
 /// A kind of items: their grammar, how one is read and how one is written.

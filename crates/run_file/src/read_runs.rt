@@ -7,10 +7,10 @@ ghost use Rattle.cyc_grammar.specs.Classes.{are_tokens};
 ghost use Rattle.cyc_grammar.specs.Faults.{Reads, IsRead};
 ghost use Rattle.cyc_grammar.specs.Giving.{Gives, words};
 ghost use Rattle.heap_syntax.specs.declared.version.Version.TheVariants.{Two};
-ghost use Rattle.pred_syntax.specs.Trees.{heap_of};
+ghost use Rattle.heap_syntax.specs.DefinitionTrees.{heap_of};
 ghost use Rattle.proof_syntax.specs.Grammar.{lines};
-ghost use Rattle.model_syntax.specs.Trees.{cell_of};
-ghost use Rattle.model_syntax.specs.Grammar.{state};
+ghost use Rattle.model_file.specs.Trees.{cell_of};
+ghost use Rattle.model_file.specs.Grammar.{state};
 ghost use Rattle.run_file.specs.Grammar.{state_claimed, then_step, outcome, ending, body, run};
 ghost use Rattle.run_file.specs.Trees.{Run, run_of};
 
@@ -18,9 +18,9 @@ use crate::items::{cells, picks, values};
 use crate::tree::{Outcome, RunTree};
 use cyc_grammar::{Cursor, Refusal, read_fault};
 use cyc_lex::{ReadFault, Token, Tokens};
+use heap_syntax::definitions::{HeapTree, definitions, heap};
 use heap_syntax::{Version, first_version};
-use model_syntax::CellTree;
-use pred_syntax::{HeapTree, definitions, heap};
+use model_file::syntax::CellTree;
 use proof_syntax::{DollarVariables, LineTree};
 use std::alloc::Global;
 
@@ -28,7 +28,7 @@ use std::alloc::Global;
 fn lines(alloc: Global, cursor: &mut Cursor<'_, '_>) -> Result<Vec<LineTree>, Refusal>
     ensures { Gives (λ x. (x.items, cursor.new)) result ((lines Two).read cursor.old) }
 {
-    command_syntax::lines(alloc, &DollarVariables, Version::Two, cursor)
+    heap_syntax::lines::lines(alloc, &DollarVariables, Version::Two, cursor)
 }
 
 /// The line and the precondition that are claimed.
@@ -48,7 +48,7 @@ fn state_claimed<'a>(
 }
 
 /// The values of the stack and the cells of the heap.
-#[tactic(auto, unfolding(model_syntax::specs::Grammar::state))]
+#[tactic(auto, unfolding(model_file::specs::Grammar::state))]
 fn state(alloc: Global, cursor: &mut Cursor<'_, '_>) -> Result<(Vec<u32>, Vec<CellTree>), Refusal>
     ensures { Gives (λ x. ((x.0.items, map cell_of x.1.items), cursor.new)) result (state.read cursor.old) }
 {

@@ -1,7 +1,7 @@
 // Reading a run file: its tokens, its tree, the first flaw of the tree, and its value.
 ghost use Rattle.std.specs.Prelude.{◌≡◌, ◌-◌, ◌<◌, ◌^◌, None, length, map, IfOk};
 ghost use Rattle.cyc_lex.specs.Word.{EndsOnce, word_of};
-ghost use Rattle.pred_reader.specs.Flaws.{headings};
+ghost use Rattle.heap_reader.specs.DefinitionFlaws.{headings};
 ghost use Rattle.run_file.specs.Grammar.{run};
 ghost use Rattle.run_file.specs.Trees.{run_of};
 ghost use Rattle.run_file.specs.Flaws.{run_flaw as first_flaw};
@@ -12,12 +12,12 @@ use crate::read_runs::read_tree;
 use crate::tree::RunTree;
 use crate::values::{cells, picks, wide_numbers};
 use crate::walk::run_flaw;
+use cyc_basics::memory::OutOfMemory;
 use cyc_lex::{ReadFault, Tokens, tokens};
-use cyc_memory::OutOfMemory;
 use goto_lang::Stack;
+use heap_reader::definitions::{Scope, heads};
 use heap_reader::{Heads, flaw_fault, heap_value};
 use heap_syntax::Version;
-use pred_reader::{Scope, heads};
 use proof_file::front_values;
 use std::alloc::Global;
 
@@ -58,8 +58,8 @@ fn read_tokens(alloc: Global, tokens: &Tokens<'_>) -> Result<RunFile, ReadFault>
     Ok(run_of_tree(alloc, &heads, &tree)?)
 }
 
-/// The run that the bytes spell, or the first fault of the text: of its tokens, then of its grammar, then of what it says,
-/// each at the first place where it stands.
+/// The run that the bytes spell, or the first fault of the text: of its tokens, then of its grammar, then of what it
+/// says, each at the first place where it stands.
 pub fn read_run(alloc: Global, bytes: &[u8]) -> Result<RunFile, ReadFault>
     requires { length bytes.now < 2 ^ 32 - 1 }
     ensures { Reads bytes.now result }

@@ -1,7 +1,7 @@
 //! Trees of run files: what a text of the grammar says, with lists of any length and numbers of at most nine digits.
 
-use model_syntax::CellTree;
-use pred_syntax::{DefinitionTree, HeapTree};
+use heap_syntax::definitions::{DefinitionTree, HeapTree};
+use model_file::syntax::CellTree;
 use proof_syntax::LineTree;
 
 /// What a run picks: the address and the fields of a new cell, or whether a free branch jumps.
@@ -20,8 +20,8 @@ pub enum Outcome {
     Repeats { first: u32, again: u32 },
 }
 
-/// A run file: a claim of termination with its definitions and lines, the values of the stack, the cells of the heap and
-/// the picks in the order of the text, and how the run ends.
+/// A run file: a claim of termination with its definitions and lines, the values of the stack, the cells of the heap
+/// and the picks in the order of the text, and how the run ends.
 #[derive(Drop)]
 pub struct RunTree<'a> {
     pub definitions: Vec<DefinitionTree<'a>>,

@@ -2,7 +2,7 @@
 ghost use Rattle.std.specs.Prelude.{◌≡◌, ℕ, List, map, IfOk, Some, IsSome};
 ghost use Rattle.heap_formula.specs.Words.{Each};
 ghost use Rattle.heap_formula.specs.Cells.{cell_at};
-ghost use Rattle.model_syntax.specs.Trees.{cell_of};
+ghost use Rattle.model_file.specs.Trees.{cell_of};
 ghost use Rattle.model_file.specs.Small.{IsShortNumber, IsShortCell};
 ghost use Rattle.model_file.specs.Written.{cells_tree};
 ghost use Rattle.run_file.specs.Small.{IsShortPick};
@@ -12,11 +12,11 @@ ghost use Rattle.run_file.specs.Written.{tree_of};
 use crate::file::RunFile;
 use crate::line_trees::lines;
 use crate::tree::{PickTree, RunTree};
-use cyc_memory::OutOfMemory;
+use cyc_basics::memory::OutOfMemory;
+use general_models::runs::Pick;
 use goto_lang::Cells;
-use model_syntax::CellTree;
-use pred_reader::{definition_trees, heap_tree};
-use refuting_runs::Pick;
+use heap_reader::definitions::{definition_trees, heap_tree};
+use model_file::syntax::CellTree;
 use std::alloc::Global;
 
 /// The same numbers, each of which fits.

@@ -1,16 +1,16 @@
 // Stacks, heaps and picks as values.
 ghost use Rattle.std.specs.Prelude.{◌≡◌, ◌<◌, map, IfOk};
 ghost use Rattle.heap_formula.specs.Words.{Each};
-ghost use Rattle.model_syntax.specs.Trees.{cell_of};
+ghost use Rattle.model_file.specs.Trees.{cell_of};
 ghost use Rattle.model_file.specs.Small.{IsSmallCell};
 ghost use Rattle.model_file.specs.Values.{cells_value};
 ghost use Rattle.run_file.specs.Trees.{pick_of};
 
 use crate::tree::PickTree;
-use cyc_memory::OutOfMemory;
+use cyc_basics::memory::OutOfMemory;
+use general_models::runs::{FieldValues, Pick};
 use goto_lang::Cells;
-use model_syntax::CellTree;
-use refuting_runs::{FieldValues, Pick};
+use model_file::syntax::CellTree;
 use std::alloc::Global;
 
 /// The same numbers.

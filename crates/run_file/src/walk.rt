@@ -1,28 +1,29 @@
-// A walk over a run file's tree in the order of its tokens, up to the first flaw. Each function is given the number of the
-// part's first token and gives that of the token after it and the one that follows every part of its kind.
+// A walk over a run file's tree in the order of its tokens, up to the first flaw. Each function is given the number of
+// the part's first token and gives that of the token after it and the one that follows every part of its kind.
 ghost use Rattle.std.specs.Prelude.{◌≡◌, ◌+◌, ◌<◌, ◌≤◌, ◌^◌, ◌||◌, length, map, nat_eq, take};
 ghost use Rattle.std.specs.List.{list_any};
 ghost use Rattle.heap_reader.specs.Spans.{total, heap_span};
 ghost use Rattle.heap_reader.specs.Flaws.{IsName, IsWalk};
-ghost use Rattle.pred_syntax.specs.Trees.{heap_of};
-ghost use Rattle.pred_reader.specs.Spans.{term_span};
-ghost use Rattle.pred_reader.specs.Flaws.{headings};
+ghost use Rattle.heap_syntax.specs.DefinitionTrees.{heap_of};
+ghost use Rattle.heap_reader.specs.DefinitionSpans.{term_span};
+ghost use Rattle.heap_reader.specs.DefinitionFlaws.{headings};
 ghost use Rattle.proof_file.specs.Flaws.{state_flaw};
-ghost use Rattle.model_syntax.specs.Trees.{cell_of};
+ghost use Rattle.model_file.specs.Trees.{cell_of};
 ghost use Rattle.model_file.specs.Spans.{numbers_span, values_span, cell_span, cells_span};
 ghost use Rattle.model_file.specs.Flaws.{address_of, stack_flaw, fields_flaw, address_flaw, cell_flaw, cells_flaw};
 ghost use Rattle.run_file.specs.Trees.{pick_of, run_of};
 ghost use Rattle.run_file.specs.Spans.{pick_span, picks_span};
-ghost use Rattle.run_file.specs.Flaws.{pick_flaw, picks_flaw, from_place, first_value, first_pick, outcome_place, front_flaw, state_given_flaw, run_flaw as first_flaw};
+ghost use Rattle.run_file.specs.Flaws.{pick_flaw, picks_flaw, from_place, first_value, first_pick, outcome_place};
+ghost use Rattle.run_file.specs.Flaws.{front_flaw, state_given_flaw, run_flaw as first_flaw};
 
 use crate::tree::{PickTree, RunTree};
+use cyc_basics::limits::{MOST_ARGUMENTS, MOST_CELLS, MOST_SPATIAL, MOST_VALUES};
 use cyc_lex::{IllFault, What};
-use cyc_limits::{MOST_ARGUMENTS, MOST_CELLS, MOST_SPATIAL, MOST_VALUES};
+use heap_reader::definitions::{Scope, walk_definitions};
+use heap_reader::lines::walk_lines;
 use heap_reader::{Flaw, Heads, ill, over, walk_heap};
-use line_reader::walk_lines;
-use model_syntax::CellTree;
-use pred_reader::{Scope, walk_definitions};
-use pred_syntax::HeapTree;
+use heap_syntax::definitions::HeapTree;
+use model_file::syntax::CellTree;
 use proof_file::ProgramVariables;
 
 /// The definitions and the lines, from the fourth token on.

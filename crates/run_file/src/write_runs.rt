@@ -5,21 +5,22 @@ ghost use Rattle.cyc_lex.specs.Spacing.{text_of};
 ghost use Rattle.cyc_lex.specs.Spelling.{Spells};
 ghost use Rattle.cyc_lex.specs.Writing.{write_all};
 ghost use Rattle.heap_syntax.specs.declared.version.Version.TheVariants.{Two};
-ghost use Rattle.pred_syntax.specs.Trees.{heap_of};
+ghost use Rattle.heap_syntax.specs.DefinitionTrees.{heap_of};
 ghost use Rattle.proof_syntax.specs.Grammar.{lines};
-ghost use Rattle.model_syntax.specs.Grammar.{state};
-ghost use Rattle.model_syntax.specs.Trees.{cell_of};
-ghost use Rattle.run_file.specs.Grammar.{state_claimed, claim, claim_of, then_step, outcome, ending, course, course_of, body, run};
+ghost use Rattle.model_file.specs.Grammar.{state};
+ghost use Rattle.model_file.specs.Trees.{cell_of};
+ghost use Rattle.run_file.specs.Grammar.{state_claimed, claim, claim_of, then_step, outcome, ending, course, course_of};
+ghost use Rattle.run_file.specs.Grammar.{body, run};
 ghost use Rattle.run_file.specs.Trees.{run_of};
 
 use crate::items::{write_cells, write_picks, write_values};
 use crate::tree::{Outcome, RunTree};
+use cyc_basics::memory::OutOfMemory;
 use cyc_lex::WordWriter;
-use cyc_memory::OutOfMemory;
+use heap_syntax::definitions::HeapTree;
+use heap_syntax::writing::{write_definitions, write_heap};
 use heap_syntax::{Version, write_first_version};
-use heap_writing::{write_definitions, write_heap};
-use model_syntax::CellTree;
-use pred_syntax::HeapTree;
+use model_file::syntax::CellTree;
 use proof_syntax::{DollarVariables, LineTree};
 use std::alloc::Global;
 
@@ -28,7 +29,7 @@ fn write_lines(trees: &[LineTree], writer: &mut WordWriter) -> Result<(), OutOfM
     requires { (lines Two).fits trees.now }
     ensures { OnOk result (writer.new ≡ write_all writer.old ((lines Two).words trees.now)) }
 {
-    proof_writing::write_lines(&DollarVariables, Version::Two, trees, writer)
+    proof_syntax::writing::write_lines(&DollarVariables, Version::Two, trees, writer)
 }
 
 #[tactic(auto, using(cyc_lex::proofs::WritingLaws::write_all_on), unfolding(crate::specs::Grammar::state_claimed, cyc_lex::specs::Writing::write_all))]
@@ -59,7 +60,7 @@ fn write_claim(tree: &RunTree<'_>, writer: &mut WordWriter) -> Result<(), OutOfM
     write_state_claimed(tree.line, &tree.precondition, writer)
 }
 
-#[tactic(auto, using(cyc_lex::proofs::WritingLaws::write_all_on), unfolding(model_syntax::specs::Grammar::state, cyc_lex::specs::Writing::write_all))]
+#[tactic(auto, using(cyc_lex::proofs::WritingLaws::write_all_on), unfolding(model_file::specs::Grammar::state, cyc_lex::specs::Writing::write_all))]
 fn write_state(
     stack: &[u32],
     cells: &[CellTree],
@@ -139,8 +140,8 @@ fn write_body(tree: &RunTree<'_>, writer: &mut WordWriter) -> Result<(), OutOfMe
     writer.symbol(";")
 }
 
-/// The text of a tree that has one: its words with one space between neighbours but where the format has none, and a line
-/// feed after each `;`.
+/// The text of a tree that has one: its words with one space between neighbours but where the format has none, and a
+/// line feed after each `;`.
 #[tactic(auto, unfolding(crate::specs::Grammar::run))]
 pub fn write_tree(alloc: Global, tree: &RunTree<'_>) -> Result<Vec<u8>, OutOfMemory>
     requires { run.fits (run_of tree.now) }

@@ -8,11 +8,11 @@ ghost use Rattle.run_file.specs.Reading.{AreSame, IsRead, Reads, IsReadAgain};
 use crate::file::RunFile;
 use crate::trees::run_tree;
 use crate::write_runs::write_tree;
-use cyc_memory::OutOfMemory;
+use cyc_basics::memory::OutOfMemory;
 use std::alloc::Global;
 
-/// The text of a run in the written form: its tokens, the cells of the heap by ascending addresses, with one space between
-/// neighbours but where the format has none, and a line feed after each `;`.
+/// The text of a run in the written form: its tokens, the cells of the heap by ascending addresses, with one space
+/// between neighbours but where the format has none, and a line feed after each `;`.
 pub fn write_run(alloc: Global, run: &RunFile) -> Result<Vec<u8>, OutOfMemory>
     ensures text { IfOk result (λ bytes. bytes.items
         ≡ text_of_run run.now.defs.list run.now.program run.now.line run.now.precondition run.now.stack run.now.heap

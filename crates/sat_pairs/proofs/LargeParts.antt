@@ -14,7 +14,7 @@ use Rattle.pair_family.specs.LargeCases.{HasMore, IsLarge, IsStateAfter, sizes}
 use Rattle.pair_family.specs.Reordering.{Reorders, families_of}
 use Rattle.pair_family.specs.States.{IsReached}
 use Rattle.pair_family.specs.Tables.{Table, in_table}
-use Rattle.list_facts.specs.Words.{IsMember}
+use Rattle.cyc_basics.specs.Words.{IsMember}
 use Rattle.pair_family.proofs.Large.{first_says, says_first, start_of, more_imply}
 use Rattle.sat_pairs.specs.declared.parts.Part.{Part}
 use Rattle.sat_pairs.specs.declared.parts.Share.TheVariants.{All}
@@ -34,7 +34,8 @@ module _ (table : Table) (cell : List BasePair) (k : ℕ) (ps : List Pure) (xs :
   abbrev Reached : ℕ → BasePair → Type 0
   Reached n d = IsReached (families_of (lists_of table cell xs)) (frames_of k atoms) (start ∷ []) (take n atoms) d
 
-  reached_after : AreConsistent (pure_facts ps) → (n : ℕ) (d : BasePair) → Reached n d → IsStateAfter (in_table table) k ps atoms n d
+  reached_after : AreConsistent (pure_facts ps) → (n : ℕ) (d : BasePair) → Reached n d
+      → IsStateAfter (in_table table) k ps atoms n d
   reached_after first n d r =
       let b : start ≡ r.0 = elim r.1 [ inl s ↦ s | inr no' ↦ absurd no' ] in
       let bs = r.2.0 in
@@ -42,7 +43,8 @@ module _ (table : Table) (cell : List BasePair) (k : ℕ) (ps : List Pure) (xs :
       let s = first_says k ps atoms n bs d first folds in
       record { chosen = bs; from_family = first_out table cell n xs bs r.2.1; consistent = s.0; said = s.1 }
 
-  after_reached : Each (λ x. x.share ≡ All) xs → (n : ℕ) (d : BasePair) → IsStateAfter (in_table table) k ps atoms n d → Reached n d
+  after_reached : Each (λ x. x.share ≡ All) xs → (n : ℕ) (d : BasePair) → IsStateAfter (in_table table) k ps atoms n d
+      → Reached n d
   after_reached whole n d s =
       let f = says_first k ps atoms n s.chosen d s.consistent s.said in
       (start, inl (λ i. start), (s.chosen, first_in table cell n xs s.chosen whole s.from_family, f.1))
@@ -61,43 +63,53 @@ module _ (table : Table) (cell : List BasePair) (k : ℕ) (ps : List Pure) (xs :
       by [] a l = absurd (omega arith)
       by (d ∷ list) a l = (d, a.0)
 
-  pub passes_after : (most : ℕ) → Passes most (families_of (lists_of table cell xs)) k ps atoms → (n : ℕ) × HasMore most (After n)
+  pub passes_after : (most : ℕ) → Passes most (families_of (lists_of table cell xs)) k ps atoms
+      → (n : ℕ) × HasMore most (After n)
   passes_after most p = (p.1.0, more_imply most (Reached p.1.0) (After p.1.0) (reached_after p.0 p.1.0) p.1.1)
 
-  pub after_passes : (most : ℕ) → Each (λ x. x.share ≡ All) xs → (n : ℕ) → HasMore most (After n) → Passes most (families_of (lists_of table cell xs)) k ps atoms
+  pub after_passes : (most : ℕ) → Each (λ x. x.share ≡ All) xs → (n : ℕ) → HasMore most (After n)
+      → Passes most (families_of (lists_of table cell xs)) k ps atoms
   after_passes most whole n h =
       let one = some_of most (After n) h in
       (after_first n one.0 one.1, (n, more_imply most (After n) (Reached n) (after_reached whole n) h))
 
 -- parts in the order of a join are those of a case
-module _ (table : Table) (cell : List BasePair) (k most : ℕ) (a : SymbolicHeap) (parts xs : List Part) (are : AreWhole a.spatial parts) (all : Reorders xs parts) (order : atoms_of xs ≡ join_order k (atoms_of parts)) where
-  in_join : atoms_of xs ≡ join_order k a.spatial
-  in_join = subst (λ z. atoms_of xs ≡ join_order k z) are.atoms_are order
+module _ (table : Table) (cell : List BasePair) (k most : ℕ) (a : SymbolicHeap) (parts xs : List Part)
+    (are : AreWhole a.spatial parts) (all : Reorders xs parts) (order : atoms_of xs ≡ join_order k (atoms_of parts))
+  where
+    in_join : atoms_of xs ≡ join_order k a.spatial
+    in_join = subst (λ z. atoms_of xs ≡ join_order k z) are.atoms_are order
 
-  whole : Each (λ x. x.share ≡ All) xs
-  whole = reordered_each (λ x. x.share ≡ All) xs parts all are.shares_are
+    whole : Each (λ x. x.share ≡ All) xs
+    whole = reordered_each (λ x. x.share ≡ All) xs parts all are.shares_are
 
-  pub passes_large : HasSome table cell parts → Passes most (families_of (lists_of table cell xs)) k a.pure (atoms_of xs) → IsLarge most (in_table table) k a
-  passes_large some p =
-      let c = some_chosen table cell parts some in
-      let h = passes_after table cell k a.pure xs most p in
-      record {
-        chosen = c.0;
-        from_family = subst (IsChosen (in_table table) c.0) are.atoms_are c.1;
-        taken = h.0;
-        more = subst (λ z. HasMore most (IsStateAfter (in_table table) k a.pure z h.0)) in_join h.1;
-      }
+    pub passes_large : HasSome table cell parts → Passes most (families_of (lists_of table cell xs)) k a.pure
+        (atoms_of xs) → IsLarge most (in_table table) k a
+    passes_large some p =
+        let c = some_chosen table cell parts some in
+        let h = passes_after table cell k a.pure xs most p in
+        record {
+          chosen = c.0;
+          from_family = subst (IsChosen (in_table table) c.0) are.atoms_are c.1;
+          taken = h.0;
+          more = subst (λ z. HasMore most (IsStateAfter (in_table table) k a.pure z h.0)) in_join h.1;
+        }
 
-  pub large_passes : IsLarge most (in_table table) k a → Passes most (families_of (lists_of table cell xs)) k a.pure (atoms_of xs)
-  large_passes l =
-      after_passes table cell k a.pure xs most whole l.taken (subst (λ z. HasMore most (IsStateAfter (in_table table) k a.pure z l.taken)) (sym in_join) l.more)
+    pub large_passes : IsLarge most (in_table table) k a
+        → Passes most (families_of (lists_of table cell xs)) k a.pure (atoms_of xs)
+    large_passes l =
+        after_passes table cell k a.pure xs most whole l.taken
+        (subst (λ z. HasMore most (IsStateAfter (in_table table) k a.pure z l.taken)) (sym in_join) l.more)
 
 -- a case with an atom without base pairs is not large, and gives nothing
-module _ (table : Table) (cell : List BasePair) (k : ℕ) (a : SymbolicHeap) (parts : List Part) (are : AreWhole a.spatial parts) (is : cell ≡ cell_pair_alone) (none : ¬ HasSome table cell parts) where
+module _ (table : Table) (cell : List BasePair) (k : ℕ) (a : SymbolicHeap) (parts : List Part)
+    (are : AreWhole a.spatial parts) (is : cell ≡ cell_pair_alone) (none : ¬ HasSome table cell parts) where
   pub none_chosen : (cs : Choice) → IsChosen (in_table table) cs a.spatial → ⊥
-  none_chosen cs c = none (chosen_some table cell parts cs is are.shares_are (subst (IsChosen (in_table table) cs) (sym are.atoms_are) c))
+  none_chosen cs c = none (chosen_some table cell parts cs is are.shares_are
+      (subst (IsChosen (in_table table) cs) (sym are.atoms_are) c))
 
-  pub none_given : (keys : List BasePair) → keys ≡ [] → (d : BasePair) → IsMember d keys ↔ CaseGives (in_table table) k d a
+  pub none_given : (keys : List BasePair) → keys ≡ [] → (d : BasePair) → IsMember d keys
+      ↔ CaseGives (in_table table) k d a
   none_given keys e d = (λ m. absurd (subst (IsMember d) e m), λ c. absurd (none_chosen c.chosen c.from_family))
 
   pub none_large : (most : ℕ) → ¬ IsLarge most (in_table table) k a

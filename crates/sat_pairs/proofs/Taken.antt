@@ -1,5 +1,6 @@
 -- A base pair more: what a table has then, and how many.
-use Rattle.std.proofs.Common.{◌≡◌, ◌⊎◌, inl, inr, ℕ, zero, suc, ◌+◌, ◌<◌, ◌≤◌, List, [], ◌∷◌, ◌++◌, map, length, get_or, Bool, true, false, arith, sym, refl, ap, ◌∙◌, subst}
+use Rattle.std.proofs.Common.{◌≡◌, ◌⊎◌, inl, inr, ℕ, zero, suc, ◌+◌, ◌<◌, ◌≤◌, List, [], ◌∷◌, ◌++◌, map, length, get_or}
+use Rattle.std.proofs.Common.{Bool, true, false, arith, sym, refl, ap, ◌∙◌, subst}
 use Rattle.std.proofs.lemmas.List.{length-map, length-append}
 use Rattle.std.proofs.lemmas.Bool.{both_ways}
 use Rattle.std.specs.Prelude.{replicate}
@@ -11,26 +12,29 @@ use Rattle.pair_family.specs.BasePairs.{BasePair}
 use Rattle.pair_family.specs.Family.{CaseGives, InFamily, arity_of}
 use Rattle.pair_family.specs.LargeCases.{IsLarge, HasLargeCase}
 use Rattle.pair_family.specs.Tables.{IsTable, in_table, IsDistinct, Table, pairs_of, HasMoreThan, HasAtMost}
-use Rattle.list_facts.specs.Words.{IsMember}
+use Rattle.cyc_basics.specs.Words.{IsMember}
 use Rattle.heap_formula.proofs.StageLaws.{OneOf-map}
 use Rattle.pair_family.proofs.Large.{cases_within, large_within}
 use Rattle.pair_family.proofs.Lists.{in_left, in_right, in_append, in_map, map_in, at_each}
 use Rattle.pair_family.proofs.Rounds.{at_most, closed_table, gives_within, family_closed}
-use Rattle.pair_states.specs.declared.states.StatesFault.{StatesFault}
-use Rattle.pair_states.specs.declared.states.StatesFault.TheVariants.{TooManyStates, OutOfMemory}
+use Rattle.pair_family.specs.declared.states.states.StatesFault.{StatesFault}
+use Rattle.pair_family.specs.declared.states.states.StatesFault.TheVariants.{TooManyStates, OutOfMemory}
 use Rattle.sat_pairs.specs.declared.rounds.PairFault.TheVariants as faults
 use Rattle.sat_pairs.specs.Growth.{total, pair_fault_of, with_pair, IsAddedTo, IsPartOf, IsGrown, HasAllGiven}
-use Rattle.pair_family.proofs.States.{one_in}
-use Rattle.pair_states.proofs.Sized.{distinct_push}
+use Rattle.pair_family.proofs.StatesFacts.{one_in}
+use Rattle.pair_family.proofs.Sized.{distinct_push}
 
-with_out : (T : Table) (p : ℕ) (k : BasePair) (q : ℕ) (b : BasePair) → IsMember b (pairs_of (with_pair T p k) q) → IsMember b (pairs_of T q) ⊎ ((q ≡ p) × (b ≡ k))
+with_out : (T : Table) (p : ℕ) (k : BasePair) (q : ℕ) (b : BasePair) → IsMember b (pairs_of (with_pair T p k) q)
+    → IsMember b (pairs_of T q) ⊎ ((q ≡ p) × (b ≡ k))
 with_out [] p k q b m = inl m
-with_out (r ∷ T) zero k zero b m = elim (in_append b r (k ∷ []) m) [ inl i ↦ inl i | inr j ↦ elim j [ inl s ↦ inr (refl, sym s) | inr no' ↦ absurd no' ] ]
+with_out (r ∷ T) zero k zero b m = elim (in_append b r (k ∷ []) m)
+    [ inl i ↦ inl i | inr j ↦ elim j [ inl s ↦ inr (refl, sym s) | inr no' ↦ absurd no' ] ]
 with_out (r ∷ T) zero k (suc q) b m = inl m
 with_out (r ∷ T) (suc p) k zero b m = inl m
 with_out (r ∷ T) (suc p) k (suc q) b m = elim (with_out T p k q b m) [ inl i ↦ inl i | inr e ↦ inr (ap suc e.0, e.1) ]
 
-pub with_in : (T : Table) (p : ℕ) (k : BasePair) (q : ℕ) (b : BasePair) → IsMember b (pairs_of T q) → IsMember b (pairs_of (with_pair T p k) q)
+pub with_in : (T : Table) (p : ℕ) (k : BasePair) (q : ℕ) (b : BasePair) → IsMember b (pairs_of T q)
+    → IsMember b (pairs_of (with_pair T p k) q)
 with_in [] p k q b m = m
 with_in (r ∷ T) zero k zero b m = in_left b r (k ∷ []) m
 with_in (r ∷ T) zero k (suc q) b m = m
@@ -42,7 +46,8 @@ with_there [] p k l = absurd (omega arith)
 with_there (r ∷ T) zero k l = in_right k r (k ∷ []) (inl refl)
 with_there (r ∷ T) (suc p) k l = with_there T p k (omega arith)
 
-with_distinct : (T : Table) (p : ℕ) (k : BasePair) → ((q : ℕ) → IsDistinct (pairs_of T q)) → (¬ IsMember k (pairs_of T p)) → (q : ℕ) → IsDistinct (pairs_of (with_pair T p k) q)
+with_distinct : (T : Table) (p : ℕ) (k : BasePair) → ((q : ℕ) → IsDistinct (pairs_of T q))
+    → (¬ IsMember k (pairs_of T p)) → (q : ℕ) → IsDistinct (pairs_of (with_pair T p k) q)
 with_distinct [] p k d n q = d q
 with_distinct (r ∷ T) zero k d n zero = distinct_push r k (d 0) n
 with_distinct (r ∷ T) zero k d n (suc q) = d (suc q)
@@ -59,10 +64,15 @@ with_long [] p k = refl
 with_long (r ∷ T) zero k = refl
 with_long (r ∷ T) (suc p) k = ap suc (with_long T p k)
 
-module _ (ds : List Definition) (most : ℕ) (T : Table) (p : ℕ) (k : BasePair) (part : IsPartOf ds most T) (there : p < length T) (member : InFamily ds p k) (new : ¬ IsMember k (pairs_of T p)) where
+module _ (ds : List Definition) (most : ℕ) (T : Table) (p : ℕ) (k : BasePair) (part : IsPartOf ds most T)
+    (there : p < length T) (member : InFamily ds p k) (new : ¬ IsMember k (pairs_of T p)) where
   pub part_more : total T < most → IsPartOf ds most (with_pair T p k)
   part_more l = record {
-    members = λ q b m. elim (with_out T p k q b m) [ inl i ↦ part.members q b i | inr e ↦ subst (λ z. InFamily ds z b) (sym e.0) (subst (InFamily ds p) (sym e.1) member) ];
+    members = λ q b m. elim (with_out T p k q b m) [
+      | inl i ↦ part.members q b i
+      | inr e ↦ subst (λ z. InFamily ds z b)
+          (sym e.0) (subst (InFamily ds p) (sym e.1) member)
+    ];
     distinct = with_distinct T p k part.distinct new;
     few = let a = with_total T p k there in omega arith;
     long = with_long T p k ∙ part.long;
@@ -75,7 +85,8 @@ module _ (ds : List Definition) (most : ℕ) (T : Table) (p : ℕ) (k : BasePair
     same = λ e. absurd (let a = with_total T p k there in omega arith);
   }
 
-pub count_more : (T : Table) (p : ℕ) (k : BasePair) (n : ℕ) → p < length T → n ≡ total T → n + 1 ≡ total (with_pair T p k)
+pub count_more : (T : Table) (p : ℕ) (k : BasePair) (n : ℕ) → p < length T → n ≡ total T
+    → n + 1 ≡ total (with_pair T p k)
 count_more T p k n l e = let a = with_total T p k l in omega arith
 
 pub grown_then : (A B C : Table) → IsGrown A B → IsGrown B C → IsGrown A C
@@ -91,7 +102,8 @@ abbrev pub entries_from : ℕ → Table → List (ℕ × BasePair)
 entries_from n [] = []
 entries_from n (r ∷ T) = map (λ b. (n, b)) r ++ entries_from (suc n) T
 
-entries_out : (n : ℕ) (T : Table) (m : ℕ × BasePair) → IsMember m (entries_from n T) → (i : ℕ) × (m.0 ≡ n + i) × IsMember m.1 (pairs_of T i)
+entries_out : (n : ℕ) (T : Table) (m : ℕ × BasePair) → IsMember m (entries_from n T)
+    → (i : ℕ) × (m.0 ≡ n + i) × IsMember m.1 (pairs_of T i)
 entries_out n [] m i = absurd i
 entries_out n (r ∷ T) m i =
     elim (in_append m (map (λ b. (n, b)) r) (entries_from (suc n) T) i) [
@@ -103,10 +115,15 @@ entries_out n (r ∷ T) m i =
       | inr a ↦ (let x = entries_out (suc n) T m a in let e = x.1 in (suc x.0, omega arith, x.2))
     ]
 
-entries_in : (n : ℕ) (T : Table) (i : ℕ) (b : BasePair) → IsMember b (pairs_of T i) → IsMember {X = ℕ × BasePair} (n + i, b) (entries_from n T)
+entries_in : (n : ℕ) (T : Table) (i : ℕ) (b : BasePair) → IsMember b (pairs_of T i)
+    → IsMember {X = ℕ × BasePair} (n + i, b) (entries_from n T)
 entries_in n [] i b m = absurd m
-entries_in n (r ∷ T) zero b m = let e : n + 0 ≡ n = omega arith in in_left {X = ℕ × BasePair} (n + 0, b) (map (λ b. (n, b)) r) (entries_from (suc n) T) (subst (λ z. IsMember {X = ℕ × BasePair} (z, b) (map (λ b. (n, b)) r)) (sym e) (in_map (λ b. (n, b)) b r m))
-entries_in n (r ∷ T) (suc i) b m = let e : n + suc i ≡ suc n + i = omega arith in in_right {X = ℕ × BasePair} (n + suc i, b) (map (λ b. (n, b)) r) (entries_from (suc n) T) (subst (λ z. IsMember {X = ℕ × BasePair} (z, b) (entries_from (suc n) T)) (sym e) (entries_in (suc n) T i b m))
+entries_in n (r ∷ T) zero b m = let e : n + 0 ≡ n = omega arith in
+    in_left {X = ℕ × BasePair} (n + 0, b) (map (λ b. (n, b)) r) (entries_from (suc n) T)
+    (subst (λ z. IsMember {X = ℕ × BasePair} (z, b) (map (λ b. (n, b)) r)) (sym e) (in_map (λ b. (n, b)) b r m))
+entries_in n (r ∷ T) (suc i) b m = let e : n + suc i ≡ suc n + i = omega arith in
+    in_right {X = ℕ × BasePair} (n + suc i, b) (map (λ b. (n, b)) r) (entries_from (suc n) T)
+    (subst (λ z. IsMember {X = ℕ × BasePair} (z, b) (entries_from (suc n) T)) (sym e) (entries_in (suc n) T i b m))
 
 entries_long : (n : ℕ) (T : Table) → length (entries_from n T) ≡ total T
 entries_long n [] = refl
@@ -115,7 +132,8 @@ entries_long n (r ∷ T) =
     let b : length (map (λ (b : BasePair). (n, b)) r) ≡ length r = length-map r (λ (b : BasePair). (n, b)) in
     let c = entries_long (suc n) T in a ∙ ((λ i. b i + length (entries_from (suc n) T)) ∙ ap (λ z. length r + z) c)
 
-distinct_both : {X : Type 0} (xs ys : List X) → IsDistinct xs → IsDistinct ys → ((x : X) → IsMember x xs → IsMember x ys → ⊥) → IsDistinct (xs ++ ys)
+distinct_both : {X : Type 0} (xs ys : List X) → IsDistinct xs → IsDistinct ys
+    → ((x : X) → IsMember x xs → IsMember x ys → ⊥) → IsDistinct (xs ++ ys)
 distinct_both [] ys a b n = b
 distinct_both (x ∷ xs) ys a b n = (
   λ m. elim (in_append x xs ys m) [ inl i ↦ a.0 i | inr j ↦ n x (inl refl) j ],
@@ -125,31 +143,48 @@ distinct_both (x ∷ xs) ys a b n = (
 distinct_map : (n : ℕ) (r : List BasePair) → IsDistinct r → IsDistinct {X = ℕ × BasePair} (map (λ b. (n, b)) r)
 distinct_map n [] d = tt
 distinct_map n (b ∷ r) d = (
-  λ m. let x = map_in {Y = ℕ × BasePair} (λ b. (n, b)) (n, b) r m in d.0 (subst (λ z. IsMember z r) (ap (λ z. z.1) x.2) x.1),
+  λ m. let x = map_in {Y = ℕ × BasePair} (λ b. (n, b)) (n, b) r m in
+      d.0 (subst (λ z. IsMember z r) (ap (λ z. z.1) x.2) x.1),
   distinct_map n r d.1,
 )
 
 entries_distinct : (n : ℕ) (T : Table) → ((q : ℕ) → IsDistinct (pairs_of T q)) → IsDistinct (entries_from n T)
 entries_distinct n [] d = tt
-entries_distinct n (r ∷ T) d = distinct_both (map (λ b. (n, b)) r) (entries_from (suc n) T) (distinct_map n r (d 0)) (entries_distinct (suc n) T (λ q. d (suc q))) (λ m i j. let x = map_in (λ b. (n, b)) m r i in let y = entries_out (suc n) T m j in let e : n ≡ m.0 = ap (λ z. z.0) x.2 in let f = y.1 in omega arith)
+entries_distinct n (r ∷ T) d = distinct_both (map (λ b. (n, b)) r) (entries_from (suc n) T) (distinct_map n r (d 0))
+    (entries_distinct (suc n) T (λ q. d (suc q))) (λ m i j. let x = map_in (λ b. (n, b)) m r i in
+    let y = entries_out (suc n) T m j in let e : n ≡ m.0 = ap (λ z. z.0) x.2 in let f = y.1 in omega arith)
 
 -- one more than the most
-pub too_many : (ds : List Definition) (most : ℕ) (T : Table) (p : ℕ) (k : BasePair) → IsPartOf ds most T → InFamily ds p k → (¬ IsMember k (pairs_of T p)) → most ≤ total T → HasMoreThan ds most
+pub too_many : (ds : List Definition) (most : ℕ) (T : Table) (p : ℕ) (k : BasePair) → IsPartOf ds most T
+    → InFamily ds p k → (¬ IsMember k (pairs_of T p)) → most ≤ total T → HasMoreThan ds most
 too_many ds most T p k part member new l = record {
   list = (p, k) ∷ entries_from 0 T;
   are = record {
-    distinct = ((λ m. let x = entries_out 0 T (p, k) m in let e : x.0 ≡ p = (let f = x.1 in omega arith) in new (subst (λ z. IsMember k (pairs_of T z)) e x.2)), entries_distinct 0 T part.distinct);
-    members = (member, at_each (λ m. InFamily ds m.0 m.1) (entries_from 0 T) (λ m i. let x = entries_out 0 T m i in let e : x.0 ≡ m.0 = (let f = x.1 in omega arith) in subst (λ z. InFamily ds z m.1) e (part.members x.0 m.1 x.2)));
+    distinct = (
+      (λ m. let x = entries_out 0 T (p, k) m in let e : x.0 ≡ p = (let f = x.1 in omega arith) in
+          new (subst (λ z. IsMember k (pairs_of T z)) e x.2)),
+      entries_distinct 0 T part.distinct,
+    );
+    members = (
+      member,
+      at_each (λ m. InFamily ds m.0 m.1) (entries_from 0 T)
+          (λ m i. let x = entries_out 0 T m i in let e : x.0 ≡ m.0 = (let f = x.1 in omega arith) in
+          subst (λ z. InFamily ds z m.1) e (part.members x.0 m.1 x.2)),
+    );
   };
   more = let a = entries_long 0 T in omega arith;
 }
 
 -- a table with the whole family bounds its members
-pub has_at_most : (ds : List Definition) (most : ℕ) (T : Table) → ((p : ℕ) (b : BasePair) → InFamily ds p b → IsMember b (pairs_of T p)) → total T ≤ most → HasAtMost ds most
+pub has_at_most : (ds : List Definition) (most : ℕ) (T : Table)
+    → ((p : ℕ) (b : BasePair) → InFamily ds p b → IsMember b (pairs_of T p)) → total T ≤ most → HasAtMost ds most
 has_at_most ds most T every l =
-    at_most ds (entries_from 0 T) most (λ p b i. let e : 0 + p ≡ p = omega arith in subst (λ z. IsMember {X = ℕ × BasePair} (z, b) (entries_from 0 T)) e (entries_in 0 T p b (every p b i))) (let a = entries_long 0 T in omega arith)
+    at_most ds (entries_from 0 T) most (λ p b i. let e : 0 + p ≡ p = omega arith in
+    subst (λ z. IsMember {X = ℕ × BasePair} (z, b) (entries_from 0 T)) e (entries_in 0 T p b (every p b i)))
+    (let a = entries_long 0 T in omega arith)
 
-pub added_new : (old new : Table) (p : ℕ) (k : BasePair) (b : Bool) → b ≡ true → IsAddedTo old new p k b → (¬ IsMember k (pairs_of old p)) × (new ≡ with_pair old p k)
+pub added_new : (old new : Table) (p : ℕ) (k : BasePair) (b : Bool) → b ≡ true → IsAddedTo old new p k b
+    → (¬ IsMember k (pairs_of old p)) × (new ≡ with_pair old p k)
 added_new old new p k true e a = a
 added_new old new p k false e a = absurd (both_ways false refl e)
 
@@ -161,8 +196,11 @@ at_member (y ∷ xs) zero x l e = inl e
 at_member (y ∷ xs) (suc i) x l e = inr (at_member xs i x (omega arith) e)
 
 -- what a case gives with the family is in the family
-pub case_sound : (ds : List Definition) (p : ℕ) (k : ℕ) (a : SymbolicHeap) → k ≡ arity_of ds p → IsMember a (cases_of ds p) → (b : BasePair) → CaseGives (InFamily ds) k b a → InFamily ds p b
-case_sound ds p k a e m b g = family_closed ds p b (one_in (CaseGives (InFamily ds) (arity_of ds p) b) (cases_of ds p) a m (subst (λ z. CaseGives (InFamily ds) z b a) e g))
+pub case_sound : (ds : List Definition) (p : ℕ) (k : ℕ) (a : SymbolicHeap) → k ≡ arity_of ds p
+    → IsMember a (cases_of ds p) → (b : BasePair) → CaseGives (InFamily ds) k b a → InFamily ds p b
+case_sound ds p k a e m b g = family_closed ds p b
+    (one_in (CaseGives (InFamily ds) (arity_of ds p) b) (cases_of ds p) a m
+    (subst (λ z. CaseGives (InFamily ds) z b a) e g))
 
 below_or : (p q : ℕ) → p < q + 1 → (p < q) ⊎ (p ≡ q)
 below_or zero zero l = inr refl
@@ -181,7 +219,9 @@ no_cases (d ∷ ds) zero P l o = absurd (omega arith)
 no_cases (d ∷ ds) (suc p) P l o = no_cases ds p P (omega arith) o
 
 -- a round that adds nothing: the table is the family
-pub finished : (ds : List Definition) (most : ℕ) (old new : Table) → IsPartOf ds most new → IsGrown old new → total new ≡ total old → ((p : ℕ) → p < length ds → HasAllGiven old new p (arity_of ds p) (cases_of ds p)) → IsTable ds new × HasAtMost ds most
+pub finished : (ds : List Definition) (most : ℕ) (old new : Table) → IsPartOf ds most new → IsGrown old new
+    → total new ≡ total old → ((p : ℕ) → p < length ds → HasAllGiven old new p (arity_of ds p) (cases_of ds p))
+    → IsTable ds new × HasAtMost ds most
 finished ds most old new part grown e given =
     let same = grown.same e in
     let is : IsTable ds new = closed_table ds new part.members (λ p b o. elim (cases_below p (length ds)) [
@@ -191,9 +231,11 @@ finished ds most old new part grown e given =
     (is, has_at_most ds most new (λ p b i. (is p b).1 i) part.few)
 
 -- nor is a case large
-pub finished_small : (ds : List Definition) (states : ℕ) (old new : Table) → IsTable ds new → IsGrown old new → total new ≡ total old → ¬ HasLargeCase ds states (in_table old) → ¬ HasLargeCase ds states (InFamily ds)
+pub finished_small : (ds : List Definition) (states : ℕ) (old new : Table) → IsTable ds new → IsGrown old new
+    → total new ≡ total old → ¬ HasLargeCase ds states (in_table old) → ¬ HasLargeCase ds states (InFamily ds)
 finished_small ds states old new is grown e small h =
-    small (subst (λ z. HasLargeCase ds states (in_table z)) (grown.same e) (cases_within (InFamily ds) (in_table new) (λ p b i. (is p b).1 i) ds states h))
+    small (subst (λ z. HasLargeCase ds states (in_table z)) (grown.same e)
+    (cases_within (InFamily ds) (in_table new) (λ p b i. (is p b).1 i) ds states h))
 
 -- nothing at the start
 empty_row : (n p : ℕ) (b : BasePair) → IsMember b (pairs_of (replicate n []) p) → ⊥
@@ -226,7 +268,10 @@ pub empty_count : (n : ℕ) (T : Table) → T ≡ replicate n [] → 0 ≡ total
 empty_count n T e = sym (ap total e ∙ empty_total n)
 
 -- what is given by one case more
-pub given_more : (A B C : Table) (p k : ℕ) (x : SymbolicHeap) (rest : List SymbolicHeap) → IsGrown A B → IsGrown B C → ((b : BasePair) → CaseGives (in_table B) k b x → IsMember b (pairs_of C p)) → (b : BasePair) → IsMember b (pairs_of B p) ⊎ OneOf (CaseGives (in_table A) k b) (x ∷ rest) → IsMember b (pairs_of C p) ⊎ OneOf (CaseGives (in_table A) k b) rest
+pub given_more : (A B C : Table) (p k : ℕ) (x : SymbolicHeap) (rest : List SymbolicHeap) → IsGrown A B → IsGrown B C
+    → ((b : BasePair) → CaseGives (in_table B) k b x → IsMember b (pairs_of C p)) → (b : BasePair)
+    → IsMember b (pairs_of B p) ⊎ OneOf (CaseGives (in_table A) k b) (x ∷ rest)
+    → IsMember b (pairs_of C p) ⊎ OneOf (CaseGives (in_table A) k b) rest
 given_more A B C p k x rest f g h b o =
     elim o [
       | inl m ↦ inl (g.within p b m)
@@ -237,7 +282,10 @@ given_more A B C p k x rest f g h b o =
     ]
 
 -- no case so far is large, nor one case more
-pub small_more : (states : ℕ) (A B : Table) (k : ℕ) (x : SymbolicHeap) (rest all : List SymbolicHeap) → IsGrown A B → ¬ IsLarge states (in_table B) k x → (OneOf (IsLarge states (in_table A) k) all → OneOf (IsLarge states (in_table A) k) (x ∷ rest)) → OneOf (IsLarge states (in_table A) k) all → OneOf (IsLarge states (in_table A) k) rest
+pub small_more : (states : ℕ) (A B : Table) (k : ℕ) (x : SymbolicHeap) (rest all : List SymbolicHeap) → IsGrown A B
+    → ¬ IsLarge states (in_table B) k x → (OneOf (IsLarge states (in_table A) k) all
+    → OneOf (IsLarge states (in_table A) k) (x ∷ rest)) → OneOf (IsLarge states (in_table A) k) all
+    → OneOf (IsLarge states (in_table A) k) rest
 small_more states A B k x rest all f n left o =
     elim (left o) [
       | inl l ↦ absurd (n (large_within (in_table A) (in_table B) (λ q d m. f.within q d m) states k x l))
@@ -245,12 +293,17 @@ small_more states A B k x rest all f n left o =
     ]
 
 -- nor one definition more
-pub smalls_more : (ds : List Definition) (states : ℕ) (A B : Table) (q : ℕ) → IsGrown A B → ((p : ℕ) → p < q → ¬ OneOf (IsLarge states (in_table A) (arity_of ds p)) (cases_of ds p)) → ¬ OneOf (IsLarge states (in_table B) (arity_of ds q)) (cases_of ds q) → (p : ℕ) → p < q + 1 → ¬ OneOf (IsLarge states (in_table A) (arity_of ds p)) (cases_of ds p)
+pub smalls_more : (ds : List Definition) (states : ℕ) (A B : Table) (q : ℕ) → IsGrown A B
+    → ((p : ℕ) → p < q → ¬ OneOf (IsLarge states (in_table A) (arity_of ds p)) (cases_of ds p))
+    → ¬ OneOf (IsLarge states (in_table B) (arity_of ds q)) (cases_of ds q) → (p : ℕ) → p < q + 1
+    → ¬ OneOf (IsLarge states (in_table A) (arity_of ds p)) (cases_of ds p)
 smalls_more ds states A B q f done here p l o =
     elim (below_or p q l) [
       | inl less ↦ done p less o
       | inr e ↦
-          here (OneOf-map (IsLarge states (in_table A) (arity_of ds q)) (IsLarge states (in_table B) (arity_of ds q)) (large_within (in_table A) (in_table B) (λ r d m. f.within r d m) states (arity_of ds q)) (cases_of ds q) (subst (λ z. OneOf (IsLarge states (in_table A) (arity_of ds z)) (cases_of ds z)) e o))
+          here (OneOf-map (IsLarge states (in_table A) (arity_of ds q)) (IsLarge states (in_table B) (arity_of ds q))
+          (large_within (in_table A) (in_table B) (λ r d m. f.within r d m) states (arity_of ds q)) (cases_of ds q)
+          (subst (λ z. OneOf (IsLarge states (in_table A) (arity_of ds z)) (cases_of ds z)) e o))
     ]
 
 pub states_fault : (f : StatesFault) → pair_fault_of f ≡ faults.TooManyStates → f ≡ TooManyStates
@@ -258,12 +311,18 @@ states_fault TooManyStates e = refl
 states_fault OutOfMemory e = absurd (let g : faults.OutOfMemory ≡ faults.TooManyStates = e in cc)
 
 -- a large case of a predicate
-pub large_there : (ds : List Definition) (states p k : ℕ) (a : SymbolicHeap) → k ≡ arity_of ds p → IsMember a (cases_of ds p) → IsLarge states (InFamily ds) k a → HasLargeCase ds states (InFamily ds)
-large_there ds states p k a e m l =
-    (p, one_in (IsLarge states (InFamily ds) (arity_of ds p)) (cases_of ds p) a m (subst (λ z. IsLarge states (InFamily ds) z a) e l))
+pub large_there : (ds : List Definition) (states p k : ℕ) (a : SymbolicHeap) → k ≡ arity_of ds p
+    → IsMember a (cases_of ds p) → IsLarge states (InFamily ds) k a → HasLargeCase ds states (InFamily ds)
+large_there ds states p k a e m l = (
+  p,
+  one_in (IsLarge states (InFamily ds) (arity_of ds p)) (cases_of ds p) a m
+      (subst (λ z. IsLarge states (InFamily ds) z a) e l),
+)
 
 -- no case of any predicate is large
-pub none_large : (ds : List Definition) (states : ℕ) (T : Table) → ((p : ℕ) → p < length ds → ¬ OneOf (IsLarge states (in_table T) (arity_of ds p)) (cases_of ds p)) → ¬ HasLargeCase ds states (in_table T)
+pub none_large : (ds : List Definition) (states : ℕ) (T : Table)
+    → ((p : ℕ) → p < length ds → ¬ OneOf (IsLarge states (in_table T) (arity_of ds p)) (cases_of ds p))
+    → ¬ HasLargeCase ds states (in_table T)
 none_large ds states T none h =
     elim (cases_below h.0 (length ds)) [
       | inl l ↦ none h.0 l h.1
@@ -271,14 +330,20 @@ none_large ds states T none h =
     ]
 
 -- what is given by one definition more
-pub all_more : (ds : List Definition) (A B C : Table) (q : ℕ) → IsGrown A B → IsGrown B C → ((p : ℕ) → p < q → HasAllGiven A B p (arity_of ds p) (cases_of ds p)) → HasAllGiven B C q (arity_of ds q) (cases_of ds q) → (p : ℕ) → p < q + 1 → HasAllGiven A C p (arity_of ds p) (cases_of ds p)
+pub all_more : (ds : List Definition) (A B C : Table) (q : ℕ) → IsGrown A B → IsGrown B C
+    → ((p : ℕ) → p < q → HasAllGiven A B p (arity_of ds p) (cases_of ds p))
+    → HasAllGiven B C q (arity_of ds q) (cases_of ds q) → (p : ℕ) → p < q + 1
+    → HasAllGiven A C p (arity_of ds p) (cases_of ds p)
 all_more ds A B C q f g done here p l b o =
     elim (below_or p q l) [
       | inl less ↦ g.within p b (done p less b o)
-      | inr e ↦ subst (λ z. IsMember b (pairs_of C z)) (sym e) (here b (subst (λ z. OneOf (CaseGives (in_table B) (arity_of ds z) b) (cases_of ds z)) e (lift (cases_of ds p) o)))
+      | inr e ↦ subst (λ z. IsMember b (pairs_of C z)) (sym e)
+          (here b (subst (λ z. OneOf (CaseGives (in_table B) (arity_of ds z) b) (cases_of ds z)) e
+          (lift (cases_of ds p) o)))
     ]
   where
-    lift : (cs : List SymbolicHeap) → OneOf (CaseGives (in_table A) (arity_of ds p) b) cs → OneOf (CaseGives (in_table B) (arity_of ds p) b) cs
+    lift : (cs : List SymbolicHeap) → OneOf (CaseGives (in_table A) (arity_of ds p) b) cs
+        → OneOf (CaseGives (in_table B) (arity_of ds p) b) cs
     lift [] o = o
     lift (c ∷ cs) (inl y) = inl (gives_within (in_table A) (in_table B) (λ q d m. f.within q d m) (arity_of ds p) b c y)
     lift (c ∷ cs) (inr z) = inr (lift cs z)
@@ -297,7 +362,8 @@ module _ (old new : List BasePair) (k : BasePair) (e : old ≡ new ++ (k ∷ [])
   pub popped_rest : (b : BasePair) → IsMember b new → IsMember b old
   popped_rest b m = subst (IsMember b) (sym e) (in_left b new (k ∷ []) m)
 
-  pub popped_done : (B C : Table) (p : ℕ) → IsGrown B C → IsMember k (pairs_of C p) → (b : BasePair) → IsMember b old ⊎ IsMember b (pairs_of B p) → IsMember b new ⊎ IsMember b (pairs_of C p)
+  pub popped_done : (B C : Table) (p : ℕ) → IsGrown B C → IsMember k (pairs_of C p) → (b : BasePair)
+      → IsMember b old ⊎ IsMember b (pairs_of B p) → IsMember b new ⊎ IsMember b (pairs_of C p)
   popped_done B C p g t b (inr m) = inr (g.within p b m)
   popped_done B C p g t b (inl m) =
       elim (in_append b new (k ∷ []) (subst (IsMember b) e m)) [

@@ -8,7 +8,7 @@ use Rattle.pair_family.specs.Folding.{Frames, said_in, spoken}
 use Rattle.pair_family.specs.Frames.{frames_of}
 use Rattle.pair_family.specs.LargeCases.{HasMore}
 use Rattle.pair_family.specs.States.{Families, IsReached}
-use Rattle.pair_states.specs.Labels.{IfApart, combined, combined_pairs, GivesFrom, Grows}
+use Rattle.pair_family.specs.Labels.{IfApart, combined, combined_pairs, GivesFrom, Grows}
 use Rattle.sat_pairs.specs.Numbers.{count_from, places_in, pure_pair_at, kept_numbers}
 
 -- what the pure atoms say of the terms of the spatial ones and of k parameters, unless they exclude

@@ -6,9 +6,9 @@ use Rattle.heap_formula.specs.Definitions.{Definition}
 use Rattle.pair_family.specs.BasePairs.{BasePair}
 use Rattle.pair_family.specs.Family.{CaseGives, InFamily}
 use Rattle.pair_family.specs.Tables.{IsDistinct, Table, in_table, pairs_of}
-use Rattle.list_facts.specs.Words.{IsMember}
-use Rattle.pair_states.specs.declared.states.StatesFault.{StatesFault}
-use Rattle.pair_states.specs.declared.states.StatesFault.TheVariants.{TooManyStates, OutOfMemory}
+use Rattle.cyc_basics.specs.Words.{IsMember}
+use Rattle.pair_family.specs.declared.states.states.StatesFault.{StatesFault}
+use Rattle.pair_family.specs.declared.states.states.StatesFault.TheVariants.{TooManyStates, OutOfMemory}
 use Rattle.sat_pairs.specs.declared.rounds.PairFault.{PairFault}
 use Rattle.sat_pairs.specs.declared.rounds.PairFault.TheVariants as faults
 
@@ -55,7 +55,8 @@ HasGiven old new p k a = (b : BasePair) → CaseGives (in_table old) k b a → I
 
 -- and what some cases give
 abbrev pub HasAllGiven : Table → Table → ℕ → ℕ → List SymbolicHeap → Type 0
-HasAllGiven old new p k cases = (b : BasePair) → OneOf (CaseGives (in_table old) k b) cases → IsMember b (pairs_of new p)
+HasAllGiven old new p k cases = (b : BasePair) → OneOf (CaseGives (in_table old) k b) cases
+    → IsMember b (pairs_of new p)
 
 -- a fault of a case as one of the family
 abbrev pub pair_fault_of : StatesFault → PairFault

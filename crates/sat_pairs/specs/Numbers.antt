@@ -30,7 +30,8 @@ sides_of (Neq t u) = (t, u)
 
 abbrev pub with_pure_numbers : List ℕ → List Pure → List ℕ
 with_pure_numbers ns [] = ns
-with_pure_numbers ns (p ∷ ps) = with_pure_numbers (numbered (numbered ns (term_number (sides_of p).0)) (term_number (sides_of p).1)) ps
+with_pure_numbers ns (p ∷ ps) = with_pure_numbers (numbered (numbered ns (term_number (sides_of p).0))
+    (term_number (sides_of p).1)) ps
 
 -- the first place of a number
 abbrev pub place_in : ℕ → List ℕ → ℕ

@@ -41,7 +41,8 @@ lists_of table cell xs = map (part_pairs table cell) xs
 
 -- b is what parts give, with pure atoms, for a predicate with k parameters
 abbrev pub PartsGive : Table → List BasePair → ℕ → List Pure → BasePair → List Part → Type 0
-PartsGive table cell k ps b xs = GivesBy (families_of (lists_of table cell xs)) k b (record { pure = ps; spatial = atoms_of xs })
+PartsGive table cell k ps b xs = GivesBy (families_of (lists_of table cell xs)) k b
+    (record { pure = ps; spatial = atoms_of xs })
 
 -- a part for each of these atoms, with all its base pairs
 pub record AreWhole (atoms : List Spatial) (xs : List Part) : Type 0 where

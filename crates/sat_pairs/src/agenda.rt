@@ -1,6 +1,6 @@
 // Which definitions are to be done, and which use which.
 
-use cyc_memory::OutOfMemory;
+use cyc_basics::memory::OutOfMemory;
 use heap_formula::{Heap, Spatial};
 use pred_defs::Defs;
 use std::alloc::Global;

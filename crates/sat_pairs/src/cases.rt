@@ -11,7 +11,7 @@ ghost use Rattle.pair_family.specs.Reordering.{families_of};
 ghost use Rattle.pair_family.specs.States.{AreStates};
 ghost use Rattle.pair_family.specs.Statements.{IsSatisfiable};
 ghost use Rattle.pair_family.specs.Tables.{IsTable, in_table};
-ghost use Rattle.list_facts.specs.Words.{IsMember};
+ghost use Rattle.cyc_basics.specs.Words.{IsMember};
 ghost use Rattle.pair_family.specs.Within.{IsWithin};
 ghost use Rattle.sat_pairs.specs.Numbers.{places_in, cell_pair_alone, equal_places, differ_places, pure_pair_at};
 ghost use Rattle.sat_pairs.specs.Parts.{atoms_of, lists_of, AreWhole, HasSome, PartsGive};
@@ -23,10 +23,10 @@ use crate::numbers::{
 use crate::orders::{in_join_order, in_order};
 use crate::parts::{Part, have_some, pairs_of_part, place_of_none, whole_parts};
 use crate::tables::Table;
-use cyc_memory::OutOfMemory;
+use cyc_basics::memory::OutOfMemory;
 use heap_formula::{Heap, Pure, Spatial};
 use indexmap::IndexSet;
-use pair_states::{Known, StatesFault, Step, combine, first_states, states_after};
+use pair_family::states::{AtomStep, Known, StatesFault, combine, first_states, states_after};
 use pred_defs::Defs;
 use std::alloc::Global;
 
@@ -150,7 +150,7 @@ fn step(
 {
     let kept = numbers_below(alloc, after)?;
     let places = places_for(alloc, numbers, atom)?;
-    let step = Step {
+    let step = AtomStep {
         numbers,
         places: &places,
         kept: &kept,
@@ -207,7 +207,8 @@ fn fold(
         (frames_of k (atoms_of parts.now)) states.keys (atoms_of parts.now) out.keys) }
     ensures few { IfOk result (λ _. ¬ PassesFrom most (families_of (lists_of table.now cell.now parts.now))
         (frames_of k (atoms_of parts.now)) states.keys (atoms_of parts.now)) }
-    ensures many { result ≡ Err StatesFault.TooManyStates → PassesFrom most (families_of (lists_of table.now cell.now parts.now))
+    ensures many { result ≡ Err StatesFault.TooManyStates → PassesFrom most
+        (families_of (lists_of table.now cell.now parts.now))
         (frames_of k (atoms_of parts.now)) states.keys (atoms_of parts.now) }
 {
     if parts.is_empty() {
@@ -220,8 +221,8 @@ fn fold(
     fold(alloc, table, cell, k, rest, next?, most)
 }
 
-/// The base pairs that parts in this order give, with pure atoms, for a predicate with k parameters, unless the states after
-/// some of the parts are too much.
+/// The base pairs that parts in this order give, with pure atoms, for a predicate with k parameters, unless the states
+/// after some of the parts are too much.
 fn given_in_order(
     alloc: Global,
     table: &Table,
@@ -246,8 +247,8 @@ fn given_in_order(
     fold(alloc, table, cell, k, parts, states, most)
 }
 
-/// The base pairs that parts give, with pure atoms, for a predicate with k parameters; the part at a place is taken first, so
-/// that the states may be too much where those in the order of a join are not.
+/// The base pairs that parts give, with pure atoms, for a predicate with k parameters; the part at a place is taken
+/// first, so that the states may be too much where those in the order of a join are not.
 pub fn given_from(
     alloc: Global,
     table: &Table,
@@ -289,7 +290,8 @@ fn given_in_join(
     given_in_order(alloc, table, cell, k, &ordered, case.pure(), most)
 }
 
-/// The base pairs that a case of a predicate with k parameters gives with base pairs of the table, unless the case is large.
+/// The base pairs that a case of a predicate with k parameters gives with base pairs of the table, unless the case is
+/// large.
 pub fn given_by(
     alloc: Global,
     table: &Table,
@@ -310,8 +312,8 @@ pub fn given_by(
     given_in_join(alloc, table, &cell, k, parts, case, most)
 }
 
-/// Whether some stack and heap satisfy a symbolic heap, unless its states are more in size than `most`. The table is that of
-/// the definitions.
+/// Whether some stack and heap satisfy a symbolic heap, unless its states are more in size than `most`. The table is
+/// that of the definitions.
 pub fn satisfiable_within(
     alloc: Global,
     _defs: &Defs,
@@ -332,8 +334,8 @@ pub fn satisfiable_within(
     Ok(is_satisfiable)
 }
 
-/// Whether some stack and heap satisfy a symbolic heap. The table is that of the definitions. Where the states are more than
-/// can be counted, there is no memory for them.
+/// Whether some stack and heap satisfy a symbolic heap. The table is that of the definitions. Where the states are more
+/// than can be counted, there is no memory for them.
 pub fn satisfiable(
     alloc: Global,
     defs: &Defs,

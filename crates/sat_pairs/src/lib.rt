@@ -11,6 +11,6 @@ mod tables;
 mod turns;
 
 pub use cases::{satisfiable, satisfiable_within};
-pub use pair_states::StatesFault;
+pub use pair_family::states::StatesFault;
 pub use rounds::{Limits, PairFault, base_pairs};
 pub use tables::Table;

@@ -5,11 +5,12 @@ ghost use Rattle.pair_family.specs.Classes.{term_number};
 ghost use Rattle.std.specs.List.{list_any};
 ghost use Rattle.pair_family.specs.Folding.{spoken};
 ghost use Rattle.heap_formula.specs.Fresh.{variables_from};
-ghost use Rattle.sat_pairs.specs.Numbers.{numbered, with_numbers, with_pure_numbers, kept_numbers as kept_numbers_of, place_in, places_in, sides_of, count_from};
+ghost use Rattle.sat_pairs.specs.Numbers.{numbered, with_numbers, with_pure_numbers, kept_numbers as kept_numbers_of};
+ghost use Rattle.sat_pairs.specs.Numbers.{place_in, places_in, sides_of, count_from};
 ghost use Rattle.sat_pairs.specs.Parts.{atoms_of};
 
 use crate::parts::Part;
-use cyc_memory::OutOfMemory;
+use cyc_basics::memory::OutOfMemory;
 use heap_formula::{Pure, Spatial, Term};
 use std::alloc::Global;
 

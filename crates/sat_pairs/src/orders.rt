@@ -1,14 +1,16 @@
 // The order in which the atoms of a symbolic heap are taken in, as the tables of a join are ordered.
 ghost use Rattle.std.specs.Prelude.{◌≡◌, ◌<◌, ◌&&◌, IfOk, length, count_by};
 ghost use Rattle.pair_family.specs.Frames.{has_term as has_term_of};
-ghost use Rattle.pair_family.specs.JoinOrder.{speaks_of as atom_speaks, is_new as is_new_in, is_shared as is_shared_in, is_needed as is_needed_in, cost_at, cost_of as cost_in, is_less as costs_less, cheapest as cheapest_of, join_order};
+ghost use Rattle.pair_family.specs.JoinOrder.{speaks_of as atom_speaks, is_new as is_new_in, is_shared as is_shared_in};
+ghost use Rattle.pair_family.specs.JoinOrder.{is_needed as is_needed_in, cost_at, cost_of as cost_in};
+ghost use Rattle.pair_family.specs.JoinOrder.{is_less as costs_less, cheapest as cheapest_of, join_order};
 ghost use Rattle.pair_family.specs.Reordering.{Reorders, IsTakenOut};
 ghost use Rattle.sat_pairs.specs.Parts.{atoms_of};
 ghost use Rattle.sat_pairs.specs.Joins.{IsFirstTaken, IsJoined, pair_of_cost};
 
 use crate::numbers::number_of;
 use crate::parts::Part;
-use cyc_memory::OutOfMemory;
+use cyc_basics::memory::OutOfMemory;
 use heap_formula::{Spatial, Term};
 use std::alloc::Global;
 
@@ -90,7 +92,8 @@ fn is_needed(k: u32, left: &[Part], term: Term) -> bool
 
 /// How many of the terms are needed and new.
 fn count_new(k: u32, taken: &[Part], left: &[Part], terms: &[Term]) -> usize
-    ensures { result ≡ count_by (λ t. is_needed_in k (atoms_of left.now) t && is_new_in (atoms_of taken.now) t) terms.now }
+    ensures { result ≡ count_by (λ t. is_needed_in k (atoms_of left.now) t && is_new_in (atoms_of taken.now) t)
+        terms.now }
 {
     terms
         .iter()
@@ -166,8 +169,8 @@ fn joined(k: u32, taken: Vec<Part>, others: Vec<Part>) -> Result<Vec<Part>, OutO
     Ok(ordered)
 }
 
-/// The parts in the order of a join: always one after which the fewest terms are needed that are new, and of these one with
-/// the fewest terms that are needed.
+/// The parts in the order of a join: always one after which the fewest terms are needed that are new, and of these one
+/// with the fewest terms that are needed.
 pub fn in_join_order(alloc: Global, k: u32, parts: Vec<Part>) -> Result<Vec<Part>, OutOfMemory>
     ensures order { IfOk result (λ v. atoms_of v.items ≡ join_order k (atoms_of parts.items)) }
     ensures all { IfOk result (λ v. Reorders v.items parts.items) }

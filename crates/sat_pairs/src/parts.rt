@@ -5,9 +5,9 @@ ghost use Rattle.sat_pairs.specs.Parts.{atoms_of, AreWhole, HasSome, cut, share_
 
 use crate::tables::Table;
 use crate::turns::News;
-use cyc_memory::OutOfMemory;
+use cyc_basics::memory::OutOfMemory;
 use heap_formula::Spatial;
-use pair_states::Known;
+use pair_family::states::Known;
 use std::alloc::Global;
 
 /// Which of a predicate's base pairs are taken: all, or those from one place to before another.

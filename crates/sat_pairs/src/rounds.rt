@@ -6,7 +6,7 @@ ghost use Rattle.pair_family.specs.BasePairs.{BasePair};
 ghost use Rattle.pair_family.specs.Family.{CaseGives, InFamily, arity_of};
 ghost use Rattle.pair_family.specs.LargeCases.{IsLarge, HasLargeCase};
 ghost use Rattle.pair_family.specs.Tables.{IsTable, HasAtMost, HasMoreThan, in_table, pairs_of};
-ghost use Rattle.list_facts.specs.Words.{IsMember};
+ghost use Rattle.cyc_basics.specs.Words.{IsMember};
 ghost use Rattle.sat_pairs.specs.Growth.{total, IsPartOf, IsGrown, AreInFamily, HasPairs, HasGiven, HasAllGiven};
 
 use crate::agenda::Agenda;
@@ -14,15 +14,15 @@ use crate::cases::{cell_pairs, given_by, given_from};
 use crate::parts::{new_parts, pair_counts};
 use crate::tables::Table;
 use crate::turns::{News, Turn, Turns, no_turns};
-use cyc_memory::OutOfMemory;
+use cyc_basics::memory::OutOfMemory;
 use heap_formula::Heap;
 use indexmap::IndexSet;
-use pair_states::{Known, StatesFault};
+use pair_family::states::{Known, StatesFault};
 use pred_defs::Defs;
 use std::alloc::{AllocError, Global};
 
-/// How many base pairs are made at most, of all predicates; and how much the states of a case may be in size, where each
-/// counts for one more than the facts in it.
+/// How many base pairs are made at most, of all predicates; and how much the states of a case may be in size, where
+/// each counts for one more than the facts in it.
 #[derive(Clone, Copy, Debug)]
 pub struct Limits {
     pub pairs: u32,
@@ -197,8 +197,8 @@ fn put_whole(
     put_given(defs, table, count, limits, pred, given)
 }
 
-/// Adds what a case gives where the atom at a place takes a base pair that is new, and those before it old ones; or nothing
-/// where its states are too many then.
+/// Adds what a case gives where the atom at a place takes a base pair that is new, and those before it old ones; or
+/// nothing where its states are too many then.
 fn put_new_at(
     alloc: Global,
     defs: &Defs,
@@ -482,8 +482,9 @@ fn put_waiting(
     }
 }
 
-/// Goes through the definitions that are to be done, the longest waiting first, each with the base pairs that have come since
-/// its last turn: where one gives a base pair that is new, its users are to be done again. It ends where none is left.
+/// Goes through the definitions that are to be done, the longest waiting first, each with the base pairs that have come
+/// since its last turn: where one gives a base pair that is new, its users are to be done again. It ends where none is
+/// left.
 fn work_through(
     alloc: Global,
     defs: &Defs,
@@ -538,9 +539,9 @@ fn work(
     work_through(alloc, defs, &mut agenda, &mut turns, table, count, limits)
 }
 
-/// The base pairs of all predicates: the least family that has what each case gives, unless that is too much. Definitions are
-/// done again where a predicate that they use has grown; and then all are gone through once more, until that gives nothing
-/// new. So at no time are there more than asked for and one.
+/// The base pairs of all predicates: the least family that has what each case gives, unless that is too much.
+/// Definitions are done again where a predicate that they use has grown; and then all are gone through once more, until
+/// that gives nothing new. So at no time are there more than asked for and one.
 pub fn base_pairs(alloc: Global, defs: &Defs, limits: Limits) -> Result<Table, PairFault>
     ensures table { IfOk result (λ t. IsTable defs.now.list t × HasAtMost defs.now.list limits.pairs) }
     ensures small { IfOk result (λ _. ¬ HasLargeCase defs.now.list limits.states (InFamily defs.now.list)) }

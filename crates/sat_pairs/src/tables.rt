@@ -3,9 +3,9 @@ ghost use Rattle.std.specs.Prelude.{◌≡◌, ◌<◌, [], length, IfOk, replic
 ghost use Rattle.pair_family.specs.Tables.{pairs_of};
 ghost use Rattle.sat_pairs.specs.Growth.{IsAddedTo};
 
-use cyc_memory::OutOfMemory;
+use cyc_basics::memory::OutOfMemory;
 use indexmap::IndexSet;
-use pair_states::{Known, add};
+use pair_family::states::{Known, add};
 use std::alloc::Global;
 use std::marker::Model;
 

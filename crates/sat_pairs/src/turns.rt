@@ -1,6 +1,6 @@
 // What was taken of each case when it was last done.
 use crate::parts::Share;
-use cyc_memory::OutOfMemory;
+use cyc_basics::memory::OutOfMemory;
 use pred_defs::Defs;
 use std::alloc::Global;
 
@@ -25,8 +25,8 @@ impl News<'_> {
         count_at(self.old, place) < count_at(self.all, place)
     }
 
-    /// Which base pairs the atom at a place takes while the atom at another takes the new ones: before that the old ones, and
-    /// behind it all.
+    /// Which base pairs the atom at a place takes while the atom at another takes the new ones: before that the old
+    /// ones, and behind it all.
     pub fn share(&self, place: usize, new_at: usize) -> Share {
         let old = count_at(self.old, place);
         let all = count_at(self.all, place);

@@ -9,3 +9,6 @@ mod LeftOpen
 mod OfferedParts
 mod OnceEach
 mod OneDisjunct
+pub mod Rest
+pub mod FoldPlaces
+pub mod Keeping

@@ -13,11 +13,11 @@ use Rattle.rule_table.specs.Table.{are_empty}
 use Rattle.proof_graph.specs.declared.nodes.GraphNode.{GraphNode}
 use Rattle.proof_graph.specs.Nodes.{HasJudgement}
 use Rattle.heap_formula.specs.Programs.{program_variables}
-use Rattle.fold_offers.specs.Places.{first_line}
-use Rattle.list_facts.specs.Words.{or_else}
+use Rattle.search_moves.specs.Places.{first_line}
+use Rattle.cyc_basics.specs.Words.{or_else}
 use Rattle.search_moves.specs.Entailments.{rewrites}
 use Rattle.search_moves.specs.States.{stops_that_go, state_rewrites}
-use Rattle.search_moves.specs.Trying.{Theory, has_premises, goes}
+use Rattle.search_moves.specs.Trying.{Theory, has_premises, is_applicable}
 use Rattle.search_moves.specs.Offering.{rules_before, rules_after, rules_offered}
 use Rattle.search_moves.specs.Closing.{has_no_premise, closes, CloseAlike, IsPart, OffersPart}
 
@@ -30,48 +30,61 @@ pub whole_part : (rules offered : List Rule) → rules ≡ offered → IsPart ru
 whole_part rules offered same = (λ r. true, same ∙ sym (all_kept offered))
 
 -- where each of the rules closes, and the offered ones close alike: the closing ones of these
-pub closing_part : (t : Theory) (j : Judgement) (rules part offered : List Rule) → rules ≡ part → filter (closes t j) part ≡ part → CloseAlike t j part offered → IsPart rules offered
+pub closing_part : (t : Theory) (j : Judgement) (rules part offered : List Rule) → rules ≡ part
+    → filter (closes t j) part ≡ part → CloseAlike t j part offered → IsPart rules offered
 closing_part t j rules part offered same all alike = (closes t j, same ∙ (sym all ∙ alike))
 
-first_offered : (rules before after : List Rule) (n : ℕ) → rules ≡ before → n ≡ length rules → (n == 0) ≡ false → rules ≡ or_else before after
-first_offered rules [] after n same long some = absurd (both_ways (n == 0) some (ap (λ k. k == 0) (long ∙ ap length same)))
+first_offered : (rules before after : List Rule) (n : ℕ) → rules ≡ before → n ≡ length rules → (n == 0) ≡ false
+    → rules ≡ or_else before after
+first_offered rules [] after n same long some = absurd
+    (both_ways (n == 0) some (ap (λ k. k == 0) (long ∙ ap length same)))
 first_offered rules (x ∷ xs) after n same long some = same
 
 -- where Absurd has no fault
-pub absurd_first : (t : Theory) (j : Judgement) (rules : List Rule) (n : ℕ) → rules ≡ filter (goes t j) (Absurd ∷ []) → n ≡ length rules → (n == 0) ≡ false → rules ≡ rules_before t j
-absurd_first t (Entail a bs) rules n same long some = first_offered rules (filter (goes t (Entail a bs)) (Absurd ∷ [])) (first_line (rewrites a.pure ∷ [])) n same long some
-absurd_first t (Runs i a) rules n same long some = first_offered rules (filter (goes t (Runs i a)) (Absurd ∷ [])) (first_line (stops_that_go t (Runs i a) i ∷ state_rewrites (program_variables t.lines) a ∷ [])) n same long some
+pub absurd_first : (t : Theory) (j : Judgement) (rules : List Rule) (n : ℕ)
+    → rules ≡ filter (is_applicable t j) (Absurd ∷ []) → n ≡ length rules → (n == 0) ≡ false → rules ≡ rules_before t j
+absurd_first t (Entail a bs) rules n same long some = first_offered rules
+    (filter (is_applicable t (Entail a bs)) (Absurd ∷ [])) (first_line (rewrites a.pure ∷ [])) n same long some
+absurd_first t (Runs i a) rules n same long some = first_offered rules
+    (filter (is_applicable t (Runs i a)) (Absurd ∷ [])) (first_line
+    (stops_that_go t (Runs i a) i ∷ state_rewrites (program_variables t.lines) a ∷ [])) n same long some
 
 -- where some rule goes before links
-pub before_part : (t : Theory) (nodes : List GraphNode) (goal : ℕ) (j : Judgement) (rules : List Rule) (n : ℕ) → HasJudgement nodes goal j → rules ≡ rules_before t j → n ≡ length rules → (n == 0) ≡ false → OffersPart t nodes goal rules
+pub before_part : (t : Theory) (nodes : List GraphNode) (goal : ℕ) (j : Judgement) (rules : List Rule) (n : ℕ)
+    → HasJudgement nodes goal j → rules ≡ rules_before t j → n ≡ length rules → (n == 0) ≡ false
+    → OffersPart t nodes goal rules
 before_part t nodes goal j rules n node same long some = (
   node.0,
   node.1,
   whole_part rules (rules_offered t nodes goal node.0.judgement)
-      (first_offered rules (rules_before t j) (rules_after t nodes goal j) n same long some ∙ ap (rules_offered t nodes goal) node.2),
+      (first_offered rules (rules_before t j) (rules_after t nodes goal j) n same long some
+      ∙ ap (rules_offered t nodes goal) node.2),
 )
 
 -- ---- Done
 
-empty_closes : (xs : List Spatial) (ps : List Pure) (ys : List Spatial) → has_no_premise (are_empty xs ps ys) ≡ has_premises (are_empty xs ps ys)
+empty_closes : (xs : List Spatial) (ps : List Pure) (ys : List Spatial)
+    → has_no_premise (are_empty xs ps ys) ≡ has_premises (are_empty xs ps ys)
 empty_closes [] [] [] = refl
 empty_closes [] [] (y ∷ ys) = refl
 empty_closes [] (p ∷ ps) ys = refl
 empty_closes (x ∷ xs) ps ys = refl
 
 -- where Done has no fault it leaves no premise
-done_closes : (t : Theory) (j : Judgement) → closes t j Done ≡ goes t j Done
+done_closes : (t : Theory) (j : Judgement) → closes t j Done ≡ is_applicable t j Done
 done_closes t (Entail a []) = refl
 done_closes t (Entail a (b ∷ [])) = empty_closes a.spatial b.pure b.spatial
 done_closes t (Entail a (b ∷ c ∷ bs)) = refl
 done_closes t (Runs i a) = refl
 
-kept_again : (closing going : Rule → Bool) (r : Rule) → closing r ≡ going r → filter closing (filter going (r ∷ [])) ≡ filter going (r ∷ [])
+kept_again : (closing going : Rule → Bool) (r : Rule) → closing r ≡ going r
+    → filter closing (filter going (r ∷ [])) ≡ filter going (r ∷ [])
 kept_again closing going r same = by (going r) same
   where
     by : (b : Bool) → closing r ≡ b → filter closing (if b then r ∷ [] else []) ≡ (if b then r ∷ [] else [])
     by true e = rw e refl
     by false e = refl
 
-pub done_kept : (t : Theory) (j : Judgement) → filter (closes t j) (filter (goes t j) (Done ∷ [])) ≡ filter (goes t j) (Done ∷ [])
-done_kept t j = kept_again (closes t j) (goes t j) Done (done_closes t j)
+pub done_kept : (t : Theory) (j : Judgement) → filter (closes t j) (filter (is_applicable t j) (Done ∷ []))
+    ≡ filter (is_applicable t j) (Done ∷ [])
+done_kept t j = kept_again (closes t j) (is_applicable t j) Done (done_closes t j)

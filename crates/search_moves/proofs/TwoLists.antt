@@ -1,5 +1,6 @@
 -- Two lists that are gone through side by side.
-use Rattle.std.proofs.Common.{◌≡◌, ℕ, ◌+◌, add-one, ◌<◌, ◌≤◌, List, [], ◌∷◌, length, drop, drop-cons, true, None, slice_index_or, refl}
+use Rattle.std.proofs.Common.{◌≡◌, ℕ, ◌+◌, add-one, ◌<◌, ◌≤◌, List, [], ◌∷◌, length, drop, drop-cons, true, None}
+use Rattle.std.proofs.Common.{slice_index_or, refl}
 use Rattle.std.proofs.lemmas.List.{drop_all}
 use Rattle.heap_formula.specs.declared.terms.Term.{Term}
 use Rattle.heap_formula.specs.declared.terms.Term.TheVariants.{Nil}
@@ -26,5 +27,7 @@ pub agreed : (ts us : List Term) (k : ℕ) → length ts ≤ k → agree (drop k
 agreed ts us k h = rw (drop_all k ts h) refl
 
 -- where there is no instance at a place, it is looked for after it
-pub goes_on : (ts us : List Term) (k : ℕ) → k < length ts → k < length us → instance_at (slice_index_or ts k Nil) (slice_index_or us k Nil) ≡ None → first_instance (drop k ts) (drop k us) ≡ first_instance (drop (k + 1) ts) (drop (k + 1) us)
+pub goes_on : (ts us : List Term) (k : ℕ) → k < length ts → k < length us
+    → instance_at (slice_index_or ts k Nil) (slice_index_or us k Nil) ≡ None
+    → first_instance (drop k ts) (drop k us) ≡ first_instance (drop (k + 1) ts) (drop (k + 1) us)
 goes_on ts us k l m none = rw (add-one, drop-cons ts k Nil l, drop-cons us k Nil m, none) refl

@@ -1,5 +1,6 @@
 -- Entailments whose antecedents differ in length have no links.
-use Rattle.std.proofs.Common.{◌≡◌, ℕ, zero, suc, Bool, true, false, List, [], ◌∷◌, map, length, take, None, if◌then◌else◌, arith, refl, ap, leb-true, ◌∙◌}
+use Rattle.std.proofs.Common.{◌≡◌, ℕ, zero, suc, Bool, true, false, List, [], ◌∷◌, map, length, take, None}
+use Rattle.std.proofs.Common.{if◌then◌else◌, arith, refl, ap, leb-true, ◌∙◌}
 use Rattle.std.specs.Prelude.{nat_eq, nat_le}
 use Rattle.std.specs.List.{filter}
 use Rattle.std.specs.Option.{is_none}
@@ -21,9 +22,11 @@ use Rattle.back_links.specs.Listing.{candidates, links}
 use Rattle.proof_graph.specs.declared.nodes.GraphNode.{GraphNode}
 use Rattle.search_moves.specs.Lengths.{is_as_long}
 use Rattle.search_moves.specs.Offering.{is_companion, links_to}
-use Rattle.list_facts.proofs.Options.{none_is}
+use Rattle.cyc_basics.proofs.Options.{none_is}
 
-as_long : (a : SymbolicHeap) (bs : List SymbolicHeap) (b : SymbolicHeap) (cs : List SymbolicHeap) (link : Link) → parts_fault a bs b cs (nat_le (length a.spatial) (length b.spatial)) link ≡ None → nat_eq (length a.spatial) (length b.spatial) ≡ true
+as_long : (a : SymbolicHeap) (bs : List SymbolicHeap) (b : SymbolicHeap) (cs : List SymbolicHeap) (link : Link)
+    → parts_fault a bs b cs (nat_le (length a.spatial) (length b.spatial)) link ≡ None
+    → nat_eq (length a.spatial) (length b.spatial) ≡ true
 as_long a bs b cs link e =
     let f = parts_are a bs b cs (nat_le (length a.spatial) (length b.spatial)) link e in
     let left = length_left a.pure a.spatial (λ _. true) link.map (map (apply_spatial link.subst) b.spatial) f.1 in
@@ -42,12 +45,14 @@ none_passes test (x ∷ xs) h = by (test x) refl (none_passes test xs h)
 
 unlinked : (j c : Judgement) (v p : ℕ) → is_as_long j c ≡ false → links j c v p ≡ []
 unlinked (Entail a bs) (Entail b cs) v p e =
-    none_passes (λ l. is_none (link_fault (Entail a bs) (Entail b cs) l p)) (candidates (Entail a bs) (Entail b cs) v) (λ l h. both_ways (nat_eq (length a.spatial) (length b.spatial)) e (as_long a bs b cs l (none_is _ h)))
+    none_passes (λ l. is_none (link_fault (Entail a bs) (Entail b cs) l p)) (candidates (Entail a bs) (Entail b cs) v)
+    (λ l h. both_ways (nat_eq (length a.spatial) (length b.spatial)) e (as_long a bs b cs l (none_is _ h)))
 unlinked (Entail a bs) (Runs k b) v p e = cc
 unlinked (Runs i a) c v p e = cc
 
 -- so none to such a node
-pub none_to : (most : ℕ) (lines : List Command) (j : Judgement) (v : ℕ) (node : GraphNode) → is_as_long j node.judgement ≡ false → links_to most lines j v node ≡ []
+pub none_to : (most : ℕ) (lines : List Command) (j : Judgement) (v : ℕ) (node : GraphNode)
+    → is_as_long j node.judgement ≡ false → links_to most lines j v node ≡ []
 none_to most lines j v node e = by (is_companion j node)
   where
     none : (n : ℕ) → take {A = Link} n [] ≡ []

@@ -1,11 +1,14 @@
 -- Which rules leave nothing to be shown.
-use Rattle.std.specs.Prelude.{ℕ, ◌≡◌, List, [], ◌∷◌, length, Bool, true, false, nat_lt, Option, Some, None, slice_get, Ok, Err}
+use Rattle.std.specs.Prelude.{ℕ, ◌≡◌, List, [], ◌∷◌, length, Bool, true, false, nat_lt, Option, Some, None, slice_get}
+use Rattle.std.specs.Prelude.{Ok, Err}
 use Rattle.std.specs.List.{filter}
 use Rattle.heap_formula.specs.declared.atoms.Spatial.{Spatial}
 use Rattle.heap_formula.specs.declared.atoms.Spatial.TheVariants.{Cell, Pred}
 use Rattle.heap_formula.specs.declared.judgements.Judgement.{Judgement}
 use Rattle.heap_formula.specs.declared.proof_rules.Rule.{Rule}
-use Rattle.heap_formula.specs.declared.proof_rules.Rule.TheVariants.{Absurd, Rewrite, Split, Distinct, Weaken, Unfold, Cut, Done, Choose, PureRight, Instantiate, Frame, UnfoldRight, Exec, Drop}
+use Rattle.heap_formula.specs.declared.proof_rules.Rule.TheVariants.{Absurd, Rewrite, Split, Distinct, Weaken, Unfold}
+use Rattle.heap_formula.specs.declared.proof_rules.Rule.TheVariants.{Cut, Done, Choose, PureRight, Instantiate, Frame}
+use Rattle.heap_formula.specs.declared.proof_rules.Rule.TheVariants.{UnfoldRight, Exec, Drop}
 use Rattle.heap_formula.specs.Definitions.{Definition}
 use Rattle.heap_formula.specs.Judgements.{antecedent}
 use Rattle.heap_formula.specs.Meaning.{cases_of}
@@ -66,7 +69,8 @@ IsPart rules offered = (kept : Rule → Bool) × (rules ≡ filter kept offered)
 -- these rules are offered to the goal, a node of the list, but for some that leave premises
 abbrev pub OffersClosing : Theory → List GraphNode → ℕ → List Rule → Type 0
 OffersClosing t nodes goal rules =
-    (node : GraphNode) × (slice_get nodes goal ≡ Some node) × CloseAlike t node.judgement rules (rules_offered t nodes goal node.judgement)
+    (node : GraphNode) × (slice_get nodes goal ≡ Some node)
+    × CloseAlike t node.judgement rules (rules_offered t nodes goal node.judgement)
 
 -- each of these rules is offered to the goal, a node of the list, and they come in the order of the offers
 abbrev pub OffersPart : Theory → List GraphNode → ℕ → List Rule → Type 0

@@ -1,5 +1,6 @@
 -- What is tried at an entailment, line by line.
-use Rattle.std.specs.Prelude.{ℕ, List, [], ◌∷◌, ◌++◌, map, length, Bool, true, false, not, ◌&&◌, ◌||◌, if◌then◌else◌, nat_eq, Option, Some, None}
+use Rattle.std.specs.Prelude.{ℕ, List, [], ◌∷◌, ◌++◌, map, length, Bool, true, false, not, ◌&&◌, ◌||◌, if◌then◌else◌}
+use Rattle.std.specs.Prelude.{nat_eq, Option, Some, None}
 use Rattle.std.specs.List.{filter, list_any, list_all}
 use Rattle.heap_formula.specs.declared.terms.Term.{Term}
 use Rattle.heap_formula.specs.declared.terms.Term.TheVariants.{Nil, Univ, Exist}
@@ -11,17 +12,19 @@ use Rattle.heap_formula.specs.declared.judgements.Judgement.{Judgement}
 use Rattle.heap_formula.specs.declared.proof_rules.Side.{Side}
 use Rattle.heap_formula.specs.declared.proof_rules.Side.TheVariants.{Left, Right}
 use Rattle.heap_formula.specs.declared.proof_rules.Rule.{Rule}
-use Rattle.heap_formula.specs.declared.proof_rules.Rule.TheVariants.{Absurd, Rewrite, Distinct, Unfold, Done, Choose, PureRight, Instantiate, Frame, UnfoldRight}
+use Rattle.heap_formula.specs.declared.proof_rules.Rule.TheVariants.{Absurd, Rewrite, Distinct, Unfold, Done, Choose}
+use Rattle.heap_formula.specs.declared.proof_rules.Rule.TheVariants.{PureRight, Instantiate, Frame, UnfoldRight}
 use Rattle.heap_formula.specs.Symbolic.{SymbolicHeap}
 use Rattle.heap_formula.specs.Meaning.{cases_of}
 use Rattle.heap_formula.specs.Substitution.{in_heap, in_pure}
 use Rattle.rule_table.specs.RuleLink.{mirror_pure}
-use Rattle.rule_table.specs.Tests.{same_term, same_pure, is_universal, is_universal_pure, follows, address_of, some_cell_at}
+use Rattle.rule_table.specs.Tests.{same_term, same_pure, is_universal, is_universal_pure, follows, address_of}
+use Rattle.rule_table.specs.Tests.{some_cell_at}
 use Rattle.rule_table.specs.Table.{right_term}
-use Rattle.fold_offers.specs.Places.{each_place, each_of, if_some, first_place, first_line, first_that}
-use Rattle.fold_offers.specs.Kinds.{is_cell, is_predicate}
+use Rattle.search_moves.specs.Places.{each_place, each_of, if_some, first_place, first_line, first_that}
+use Rattle.search_moves.specs.Kinds.{is_cell, is_predicate}
 use Rattle.search_moves.specs.declared.instances.Instance.{Instance}
-use Rattle.search_moves.specs.Trying.{Theory, goes}
+use Rattle.search_moves.specs.Trying.{Theory, is_applicable}
 use Rattle.std.specs.Option.{option_or}
 
 -- ---- equations of the antecedent
@@ -144,7 +147,8 @@ first_instance (t ∷ ts) (u ∷ us) = option_or (instance_at t u) (first_instan
 
 -- of two cells of one address and length
 abbrev pub field_instance : Spatial → Spatial → Option Instance
-field_instance (Cell t ts) (Cell u us) = if same_term t u && nat_eq (length ts) (length us) then first_instance ts us else None
+field_instance (Cell t ts) (Cell u us) = if same_term t u && nat_eq (length ts) (length us)
+    then first_instance ts us else None
 field_instance (Cell t ts) (Pred q us) = None
 field_instance (Pred p ts) (Cell u us) = None
 field_instance (Pred p ts) (Pred q us) = None
@@ -200,7 +204,8 @@ has_place xs (Pred q ts) = true
 
 -- the atom has an existential, follows, or is a disequation that some Distinct appends
 abbrev pub may_follow : Theory → Judgement → SymbolicHeap → Pure → Bool
-may_follow t j a x = not (is_universal_pure x) || (follows a.pure x || list_any (goes t j) (distincts_for a.spatial x))
+may_follow t j a x = not (is_universal_pure x) || (follows a.pure x || list_any (is_applicable t j)
+    (distincts_for a.spatial x))
 
 -- the case, its parameters being replaced, passes both tests
 abbrev pub may_unfold : Theory → Judgement → SymbolicHeap → SymbolicHeap → Bool
@@ -228,19 +233,20 @@ right_unfolds t j a ys = each_place (right_unfolds_of t j a) ys
 
 -- before links are looked at
 abbrev pub entailment_before : Theory → Judgement → SymbolicHeap → List Rule
-entailment_before t j a = first_line (filter (goes t j) (Absurd ∷ []) ∷ rewrites a.pure ∷ [])
+entailment_before t j a = first_line (filter (is_applicable t j) (Absurd ∷ []) ∷ rewrites a.pure ∷ [])
 
 -- with one disjunct: instances by arguments, cases of the right side, and unfolding on the left
 abbrev pub last_line : Theory → Judgement → SymbolicHeap → SymbolicHeap → List Rule
 last_line t j a b =
-    filter (goes t j) ((map instance_rule (argument_instances a.spatial b.spatial) ++ right_unfolds t j a b.spatial) ++ unfolds a.spatial)
+    filter (is_applicable t j) ((map instance_rule (argument_instances a.spatial b.spatial)
+    ++ right_unfolds t j a b.spatial) ++ unfolds a.spatial)
 
 -- from instances by equations on
 abbrev pub instance_lines : Theory → Judgement → SymbolicHeap → SymbolicHeap → List (List Rule)
 instance_lines t j a b =
-    first_that (goes t j) (map instance_rule (equation_instances b.pure)) ∷
-    first_that (goes t j) (map instance_rule (field_instances a.spatial b.spatial)) ∷
-    first_that (goes t j) (predicate_frames a.spatial b.spatial) ∷
+    first_that (is_applicable t j) (map instance_rule (equation_instances b.pure)) ∷
+    first_that (is_applicable t j) (map instance_rule (field_instances a.spatial b.spatial)) ∷
+    first_that (is_applicable t j) (predicate_frames a.spatial b.spatial) ∷
     last_line t j a b ∷ []
 
 -- the first of them that applies
@@ -249,10 +255,10 @@ instance_line t j a b = first_line (instance_lines t j a b)
 
 abbrev pub single_lines : Theory → Judgement → SymbolicHeap → SymbolicHeap → List (List Rule)
 single_lines t j a b =
-    filter (goes t j) (Done ∷ []) ∷
-    first_that (goes t j) (pure_rights b.pure) ∷
-    first_that (goes t j) (distincts a.spatial b.pure) ∷
-    first_that (goes t j) (cell_frames a.spatial b.spatial) ∷
+    filter (is_applicable t j) (Done ∷ []) ∷
+    first_that (is_applicable t j) (pure_rights b.pure) ∷
+    first_that (is_applicable t j) (distincts a.spatial b.pure) ∷
+    first_that (is_applicable t j) (cell_frames a.spatial b.spatial) ∷
     instance_lines t j a b
 
 -- the first of them that applies
@@ -261,7 +267,7 @@ single_line t j a b = first_line (single_lines t j a b)
 
 -- with several disjuncts: the choice of one, and unfolding on the left
 abbrev pub several_line : Theory → Judgement → SymbolicHeap → List SymbolicHeap → List Rule
-several_line t j a bs = filter (goes t j) (choices bs ++ unfolds a.spatial)
+several_line t j a bs = filter (is_applicable t j) (choices bs ++ unfolds a.spatial)
 
 -- where no link is admitted
 abbrev pub entailment_after : Theory → Judgement → SymbolicHeap → List SymbolicHeap → List Rule

@@ -2,7 +2,9 @@
 use Rattle.std.specs.Prelude.{List, [], ◌∷◌, ◌++◌, Bool, false, ◌&&◌, if◌then◌else◌, nat_eq}
 use Rattle.std.specs.List.{list_any}
 use Rattle.heap_formula.specs.declared.proof_rules.Rule.{Rule}
-use Rattle.heap_formula.specs.declared.proof_rules.Rule.TheVariants.{Absurd, Rewrite, Split, Distinct, Weaken, Unfold, Cut, Done, Choose, PureRight, Instantiate, Frame, UnfoldRight, Exec, Drop}
+use Rattle.heap_formula.specs.declared.proof_rules.Rule.TheVariants.{Absurd, Rewrite, Split, Distinct, Weaken, Unfold}
+use Rattle.heap_formula.specs.declared.proof_rules.Rule.TheVariants.{Cut, Done, Choose, PureRight, Instantiate, Frame}
+use Rattle.heap_formula.specs.declared.proof_rules.Rule.TheVariants.{UnfoldRight, Exec, Drop}
 use Rattle.rule_table.specs.Tests.{same_term}
 use Rattle.search_moves.specs.declared.instances.Instance.{Instance}
 use Rattle.search_moves.specs.Entailments.{instance_rule}
@@ -28,4 +30,5 @@ is_rule_by i (Drop k) = false
 -- the rule of each instance once, where it comes first; these are done already
 abbrev pub rules_once : List Rule → List Instance → List Rule
 rules_once done [] = done
-rules_once done (i ∷ is) = if list_any (is_rule_by i) done then rules_once done is else rules_once (done ++ instance_rule i ∷ []) is
+rules_once done (i ∷ is) = if list_any (is_rule_by i) done then rules_once done is else rules_once
+    (done ++ instance_rule i ∷ []) is

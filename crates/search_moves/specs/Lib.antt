@@ -10,3 +10,9 @@ pub mod Offering
 pub mod Rooms
 pub mod Lengths
 pub mod Closing
+pub mod Places
+pub mod Kinds
+pub mod FoldLimits
+pub mod Folds
+pub mod Placing
+pub mod Bound

@@ -1,6 +1,6 @@
 -- Definitions within the limits of a file.
 use Rattle.std.specs.Prelude.{◌≤◌, length}
-use Rattle.cyc_limits.specs.declared.TheConstants.{MOST_ARGUMENTS, MOST_CASES}
+use Rattle.cyc_basics.specs.declared.limits.TheConstants.{MOST_ARGUMENTS, MOST_CASES}
 use Rattle.heap_formula.specs.Definitions.{Definition}
 
 -- a definition has at most eight parameters and sixteen cases

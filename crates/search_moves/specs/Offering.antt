@@ -1,6 +1,6 @@
 -- What the next goal of a partial derivation is offered.
 use Rattle.std.specs.Prelude.{ℕ, ◌≡◌, List, [], ◌∷◌, Some, slice_get, take, Bool, true, false, ◌&&◌, if◌then◌else◌}
-use Rattle.cyc_limits.specs.declared.TheConstants.{MOST_LINKS}
+use Rattle.cyc_basics.specs.declared.limits.TheConstants.{MOST_LINKS}
 use Rattle.heap_formula.specs.declared.commands.Command.{Command}
 use Rattle.heap_formula.specs.declared.judgements.Judgement.{Judgement}
 use Rattle.heap_formula.specs.declared.judgements.Judgement.TheVariants.{Entail, Term as Runs}
@@ -9,8 +9,8 @@ use Rattle.heap_formula.specs.declared.proof_rules.Rule.{Rule}
 use Rattle.rule_table.specs.RuleBook.{variables_of}
 use Rattle.back_links.specs.Listing.{links}
 use Rattle.proof_graph.specs.declared.nodes.GraphNode.{GraphNode}
-use Rattle.fold_offers.specs.Places.{each_place}
-use Rattle.list_facts.specs.Words.{or_else}
+use Rattle.search_moves.specs.Places.{each_place}
+use Rattle.cyc_basics.specs.Words.{or_else}
 use Rattle.search_moves.specs.Trying.{Theory}
 use Rattle.search_moves.specs.Entailments.{entailment_before, entailment_after}
 use Rattle.search_moves.specs.States.{has_rule, is_unfold, works_on, state_before, state_after}
@@ -28,7 +28,8 @@ is_companion (Runs i a) node = works_on i node
 
 -- the first links to the node
 abbrev pub links_to : ℕ → List Command → Judgement → ℕ → GraphNode → List Link
-links_to most lines j k node = if is_companion j node then take most (links j node.judgement k (variables_of lines j)) else []
+links_to most lines j k node = if is_companion j node then take most (links j node.judgement k (variables_of lines j))
+    else []
 
 -- by companion, in order; of each the first ones, up to a limit
 abbrev pub candidates : List Command → List GraphNode → ℕ → Judgement → List Link

@@ -1,7 +1,7 @@
 -- Room for a case of a predicate on the right side, and for the cases of one on the left.
 use Rattle.std.specs.Prelude.{ℕ, ◌+◌, max, map, List, length, Bool, ◌&&◌, nat_le}
 use Rattle.std.specs.List.{list_all}
-use Rattle.cyc_limits.specs.declared.TheConstants.{MOST_PURE, VARIABLE_NUMBERS}
+use Rattle.cyc_basics.specs.declared.limits.TheConstants.{MOST_PURE, VARIABLE_NUMBERS}
 use Rattle.heap_formula.specs.declared.judgements.Judgement.{Judgement}
 use Rattle.heap_formula.specs.Judgements.{antecedent}
 use Rattle.heap_formula.specs.Symbolic.{SymbolicHeap}
@@ -9,7 +9,8 @@ use Rattle.heap_formula.specs.Words.{max_of}
 use Rattle.rule_table.specs.Answer.{disjuncts, heaps_of, is_short}
 use Rattle.heap_formula.specs.Fresh.{heap_numbers}
 
--- a case can stand in the place of an atom of b, beside a, also where each variable of b and of the case has its own number
+-- a case can stand in the place of an atom of b, beside a, also where each variable of b and of the case has its own
+-- number
 abbrev pub has_room_for : ℕ → SymbolicHeap → SymbolicHeap → SymbolicHeap → Bool
 has_room_for most a b case =
     is_short most a

@@ -2,12 +2,12 @@
 use Rattle.std.specs.Prelude.{List}
 use Rattle.heap_formula.specs.declared.commands.Command.{Command}
 use Rattle.pred_defs.specs.Book.{DefinitionBook}
-use Rattle.search_moves.specs.declared.setting.Setting.{Setting}
+use Rattle.search_moves.specs.declared.setting.GoalSetting.{GoalSetting}
 use Rattle.search_moves.specs.Trying.{Theory}
 
 -- the theory of a book of definitions and a program's lines
 abbrev pub theory : DefinitionBook → List Command → Theory
 theory book lines = record { most = book.most; definitions = book.list; lines = lines }
 
-abbrev pub theory_of : Setting → Theory
+abbrev pub theory_of : GoalSetting → Theory
 theory_of at = theory at.defs.now at.program.now

@@ -1,5 +1,6 @@
 -- What is tried at a symbolic state of a program, line by line.
-use Rattle.std.specs.Prelude.{ℕ, zero, suc, List, [], ◌∷◌, ◌++◌, take, slice_get, Bool, true, false, not, ◌&&◌, ◌||◌, if◌then◌else◌, nat_eq, nat_le, Option, Some, None, Ok, Err}
+use Rattle.std.specs.Prelude.{ℕ, zero, suc, List, [], ◌∷◌, ◌++◌, take, slice_get, Bool, true, false, not, ◌&&◌, ◌||◌}
+use Rattle.std.specs.Prelude.{if◌then◌else◌, nat_eq, nat_le, Option, Some, None, Ok, Err}
 use Rattle.std.specs.List.{filter, list_any}
 use Rattle.heap_formula.specs.declared.terms.Term.{Term}
 use Rattle.heap_formula.specs.declared.terms.Term.TheVariants.{Nil, Univ, Exist}
@@ -8,15 +9,24 @@ use Rattle.heap_formula.specs.declared.atoms.Pure.TheVariants.{Eq, Neq}
 use Rattle.heap_formula.specs.declared.atoms.Spatial.{Spatial}
 use Rattle.heap_formula.specs.declared.atoms.Spatial.TheVariants.{Cell, Pred}
 use Rattle.heap_formula.specs.declared.commands.Command.{Command}
-use Rattle.heap_formula.specs.declared.commands.Command.TheVariants.{Assign, Load, Store, New, Free, IfEq, IfNeq, IfAny, Goto, Stop}
+use Rattle.heap_formula.specs.declared.commands.Command.TheVariants.{Assign, Load, Store, New, Free, IfEq, IfNeq, IfAny}
+use Rattle.heap_formula.specs.declared.commands.Command.TheVariants.{Goto, Stop}
 use Rattle.heap_formula.specs.declared.judgements.Judgement.{Judgement}
 use Rattle.heap_formula.specs.declared.judgements.Judgement.TheVariants.{Entail, Term as Runs}
 use Rattle.heap_formula.specs.declared.proof_rules.Side.{Side}
 use Rattle.heap_formula.specs.declared.proof_rules.Side.TheVariants.{Left, Right}
 use Rattle.heap_formula.specs.declared.proof_rules.Rule.{Rule}
-use Rattle.heap_formula.specs.declared.proof_rules.Rule.TheVariants.{Absurd, Rewrite, Split, Distinct, Weaken, Unfold, Cut, Done, Choose, PureRight, Instantiate, Frame, UnfoldRight, Exec, Drop}
+use Rattle.heap_formula.specs.declared.proof_rules.Rule.TheVariants.{Absurd, Rewrite, Split, Distinct, Weaken, Unfold}
+use Rattle.heap_formula.specs.declared.proof_rules.Rule.TheVariants.{Cut, Done, Choose, PureRight, Instantiate, Frame}
+use Rattle.heap_formula.specs.declared.proof_rules.Rule.TheVariants.{UnfoldRight, Exec, Drop}
 use Rattle.heap_formula.specs.declared.proof_rules.RuleFault.{RuleFault}
-use Rattle.heap_formula.specs.declared.proof_rules.RuleFault.TheVariants.{NoSuchAtom, NotEquation, AtomsDiffer, NotSingle, HasExistential, NotFollowing, NotAbsurd, NotEmpty, NoSuchCase, WrongJudgement, NoCell, LineDiffers, LinkProgramVariable, LinkPure, LinkSpatial, LinkDisjunct, TooManyAtoms, NoFreshVariable, PremiseCount, PremiseDiffers, NoSuchNode}
+use Rattle.heap_formula.specs.declared.proof_rules.RuleFault.TheVariants.{NoSuchAtom, NotEquation, AtomsDiffer}
+use Rattle.heap_formula.specs.declared.proof_rules.RuleFault.TheVariants.{NotSingle, HasExistential, NotFollowing}
+use Rattle.heap_formula.specs.declared.proof_rules.RuleFault.TheVariants.{NotAbsurd, NotEmpty, NoSuchCase}
+use Rattle.heap_formula.specs.declared.proof_rules.RuleFault.TheVariants.{WrongJudgement, NoCell, LineDiffers}
+use Rattle.heap_formula.specs.declared.proof_rules.RuleFault.TheVariants.{LinkProgramVariable, LinkPure, LinkSpatial}
+use Rattle.heap_formula.specs.declared.proof_rules.RuleFault.TheVariants.{LinkDisjunct, TooManyAtoms, NoFreshVariable}
+use Rattle.heap_formula.specs.declared.proof_rules.RuleFault.TheVariants.{PremiseCount, PremiseDiffers, NoSuchNode}
 use Rattle.heap_formula.specs.declared.proof_rules.Reason.{Reason}
 use Rattle.heap_formula.specs.declared.proof_rules.Reason.TheVariants.{Step, Back}
 use Rattle.heap_formula.specs.Symbolic.{SymbolicHeap}
@@ -27,10 +37,10 @@ use Rattle.rule_table.specs.ExecTable.{exec_answer}
 use Rattle.back_links.specs.Listing.{stands_in_pure, stands_in_spatial}
 use Rattle.proof_graph.specs.declared.nodes.GraphPremise.{GraphPremise}
 use Rattle.proof_graph.specs.declared.nodes.GraphNode.{GraphNode}
-use Rattle.fold_offers.specs.Places.{each_place, first_place, first_line}
-use Rattle.search_moves.specs.Trying.{Theory, goes}
+use Rattle.search_moves.specs.Places.{each_place, first_place, first_line}
+use Rattle.search_moves.specs.Trying.{Theory, is_applicable}
 use Rattle.search_moves.specs.Entailments.{rewrite_at}
-use Rattle.fold_offers.specs.Folds.{folds}
+use Rattle.search_moves.specs.Folds.{folds}
 
 -- ---- equations of the state
 
@@ -61,7 +71,9 @@ occurs_elsewhere a k (Exist n) = false
 abbrev pub state_side : ℕ → SymbolicHeap → ℕ → Pure → Option Side
 state_side p a k (Neq t u) = None
 state_side p a k (Eq t u) =
-    if same_term t u then Some Left else (if is_logical p t then Some Left else (if is_logical p u then Some Right else (if occurs_elsewhere a k t then Some Left else (if same_term t Nil && occurs_elsewhere a k u then Some Right else None))))
+    if same_term t u then Some Left else (if is_logical p t then Some Left else
+    (if is_logical p u then Some Right else (if occurs_elsewhere a k t then Some Left else
+    (if same_term t Nil && occurs_elsewhere a k u then Some Right else None))))
 
 abbrev pub state_rewrite : ℕ → SymbolicHeap → ℕ → Pure → List Rule
 state_rewrite p a k x = rewrite_at k (state_side p a k x)
@@ -251,14 +263,15 @@ folds_if t nodes goal i a =
     if climbs nodes goal goal && list_any (works_on i) (take goal nodes) then folds a t.definitions else []
 
 abbrev pub stops_that_go : Theory → Judgement → ℕ → List Rule
-stops_that_go t j i = filter (goes t j) (stops (counted_from_one t.lines i))
+stops_that_go t j i = filter (is_applicable t j) (stops (counted_from_one t.lines i))
 
 -- before links are looked at
 abbrev pub state_before : Theory → Judgement → ℕ → SymbolicHeap → List Rule
 state_before t j i a =
-    first_line (filter (goes t j) (Absurd ∷ []) ∷ stops_that_go t j i ∷ state_rewrites (program_variables t.lines) a ∷ [])
+    first_line (filter (is_applicable t j) (Absurd ∷ []) ∷ stops_that_go t j i
+    ∷ state_rewrites (program_variables t.lines) a ∷ [])
 
 -- where no link is admitted
 abbrev pub state_after : Theory → List GraphNode → ℕ → Judgement → ℕ → SymbolicHeap → List Rule
 state_after t nodes goal j i a =
-    filter (goes t j) (folds_if t nodes goal i a ++ (Exec ∷ cell_unfolds t j i a))
+    filter (is_applicable t j) (folds_if t nodes goal i a ++ (Exec ∷ cell_unfolds t j i a))

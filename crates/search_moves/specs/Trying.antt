@@ -18,5 +18,5 @@ has_premises (Ok ps) = true
 has_premises (Err f) = false
 
 -- the rule has no fault at the judgement
-abbrev pub goes : Theory → Judgement → Rule → Bool
-goes t j rule = has_premises (rule_answer t.most t.definitions t.lines j rule)
+abbrev pub is_applicable : Theory → Judgement → Rule → Bool
+is_applicable t j rule = has_premises (rule_answer t.most t.definitions t.lines j rule)

@@ -5,11 +5,12 @@ ghost use Rattle.heap_formula.specs.Judgements.{antecedent as antecedent_of};
 ghost use Rattle.std.specs.List.{list_all};
 ghost use Rattle.search_moves.specs.Settings.{theory, theory_of};
 ghost use Rattle.search_moves.specs.Entailments.{entailment_after};
-ghost use Rattle.search_moves.specs.Closing.{has_case as has_some_case, leaves as leaves_some, closes, CloseAlike, IsPart};
+ghost use Rattle.search_moves.specs.Closing.{has_case as has_some_case, leaves as leaves_some, closes, CloseAlike};
+ghost use Rattle.search_moves.specs.Closing.{IsPart};
 
 use crate::entailments::rule_alone;
-use crate::setting::Setting;
-use cyc_memory::OutOfMemory;
+use crate::setting::GoalSetting;
+use cyc_basics::memory::OutOfMemory;
 use heap_formula::{Heap, Judgement, Rule, Spatial};
 use pred_defs::Defs;
 use rule_table::antecedent;
@@ -57,11 +58,11 @@ pub fn leaves_premises(defs: &Defs, judgement: &Judgement, rule: &Rule) -> bool
     leaves(defs, judgement, rule)
 }
 
-/// What comes at an entailment where no link is admitted, but for rules that leave premises, where each predicate of its
-/// left side has a case.
+/// What comes at an entailment where no link is admitted, but for rules that leave premises, where each predicate of
+/// its left side has a case.
 pub fn closing_rules(
     alloc: Global,
-    at: &Setting<'_>,
+    at: &GoalSetting<'_>,
     left: &Heap,
     heaps: &[Heap],
 ) -> Result<Vec<Rule>, OutOfMemory>

@@ -3,12 +3,13 @@ ghost use Rattle.std.specs.Prelude.{◌≡◌, ◌<◌, ◌++◌, Some, true, If
 ghost use Rattle.proof_graph.specs.declared.nodes.GraphNode.{GraphNode};
 ghost use Rattle.proof_graph.specs.HeapViews.{judgement_of};
 ghost use Rattle.search_moves.specs.Lengths.{is_as_long as has_length_of};
-ghost use Rattle.search_moves.specs.Offering.{is_companion as is_companion_of, links_to as links_to_node, candidates as candidates_of};
+ghost use Rattle.search_moves.specs.Offering.{is_companion as is_companion_of, links_to as links_to_node};
+ghost use Rattle.search_moves.specs.Offering.{candidates as candidates_of};
 
 use crate::ways::{unfolds, works_on};
 use back_links::all_links;
-use cyc_limits::MOST_LINKS;
-use cyc_memory::OutOfMemory;
+use cyc_basics::limits::MOST_LINKS;
+use cyc_basics::memory::OutOfMemory;
 use goto_lang::Program;
 use heap_formula::{Judgement, Link};
 use proof_graph::{Graph, JudgementView};

@@ -1,10 +1,11 @@
 // Which Distincts tell a disequation.
 ghost use Rattle.std.specs.Prelude.{◌≡◌, ◌≤◌, ◌++◌, IfOk, OnOk, length};
-ghost use Rattle.search_moves.specs.Entailments.{apart as apart_as, is_or_mirrors, distincts_with, distincts_for as distincts_for_of, distincts as distincts_of};
+ghost use Rattle.search_moves.specs.Entailments.{apart as apart_as, is_or_mirrors, distincts_with};
+ghost use Rattle.search_moves.specs.Entailments.{distincts_for as distincts_for_of, distincts as distincts_of};
 ghost use Rattle.rule_table.specs.Tests.{address_of};
 ghost use Rattle.rule_table.specs.RuleLink.{mirror_pure};
 
-use cyc_memory::OutOfMemory;
+use cyc_basics::memory::OutOfMemory;
 use heap_formula::{Pure, Rule, Spatial, Term};
 use rule_table::{is_universal_pure, same_pure};
 use std::alloc::Global;

@@ -2,7 +2,7 @@
 ghost use Rattle.std.specs.Prelude.{◌≡◌, ◌≤◌, ◌∷◌, [], ℕ, IfOk, length};
 ghost use Rattle.std.specs.List.{filter};
 ghost use Rattle.heap_formula.specs.Meaning.{cases_of};
-ghost use Rattle.search_moves.specs.Trying.{goes as goes_at};
+ghost use Rattle.search_moves.specs.Trying.{is_applicable as is_applicable_at};
 ghost use Rattle.search_moves.specs.Settings.{theory_of};
 ghost use Rattle.search_moves.specs.Entailments.{last_line, several_line, entailment_after};
 ghost use Rattle.search_moves.specs.Lines.{rules_on as rules_on_line, offered_from};
@@ -11,8 +11,8 @@ use crate::distincts::distincts;
 use crate::instances::{argument_rules, equation_rules, field_rules};
 use crate::places::{alone, cell_frames, choices, predicate_frames, pure_rights, push_unfolds};
 use crate::right_cases::push_right_unfolds;
-use crate::setting::{Setting, first_that_goes, those_that_go};
-use cyc_memory::OutOfMemory;
+use crate::setting::{GoalSetting, first_that_goes, those_that_go};
+use cyc_basics::memory::OutOfMemory;
 use heap_formula::{Heap, Rule};
 use std::alloc::Global;
 
@@ -40,8 +40,8 @@ const LINES: [Line; 7] = [
 ];
 
 /// The one rule, if it has no fault.
-pub fn rule_alone(alloc: Global, at: &Setting<'_>, rule: Rule) -> Result<Vec<Rule>, OutOfMemory>
-    ensures { IfOk result (λ v. v.items ≡ filter (goes_at (theory_of at.now) at.now.judgement.now) (rule ∷ [])) }
+pub fn rule_alone(alloc: Global, at: &GoalSetting<'_>, rule: Rule) -> Result<Vec<Rule>, OutOfMemory>
+    ensures { IfOk result (λ v. v.items ≡ filter (is_applicable_at (theory_of at.now) at.now.judgement.now) (rule ∷ [])) }
 {
     let rules = alone(alloc, rule)?;
     those_that_go(alloc, at, rules)
@@ -50,7 +50,7 @@ pub fn rule_alone(alloc: Global, at: &Setting<'_>, rule: Rule) -> Result<Vec<Rul
 /// Instances by arguments, cases of the right side, and unfolding on the left.
 fn last_rules(
     alloc: Global,
-    at: &Setting<'_>,
+    at: &GoalSetting<'_>,
     left: &Heap,
     right: &Heap,
 ) -> Result<Vec<Rule>, OutOfMemory>
@@ -81,7 +81,7 @@ fn rules_on(alloc: Global, left: &Heap, right: &Heap, line: Line) -> Result<Vec<
 /// The rules with one disjunct, from these lines on.
 fn offers_from(
     alloc: Global,
-    at: &Setting<'_>,
+    at: &GoalSetting<'_>,
     left: &Heap,
     right: &Heap,
     lines: &[Line],
@@ -102,7 +102,7 @@ fn offers_from(
 /// The rules with several disjuncts.
 fn several_offers(
     alloc: Global,
-    at: &Setting<'_>,
+    at: &GoalSetting<'_>,
     left: &Heap,
     heaps: &[Heap],
 ) -> Result<Vec<Rule>, OutOfMemory>
@@ -117,7 +117,7 @@ fn several_offers(
 /// What comes at an entailment where no link is admitted.
 pub fn rules_after(
     alloc: Global,
-    at: &Setting<'_>,
+    at: &GoalSetting<'_>,
     left: &Heap,
     heaps: &[Heap],
 ) -> Result<Vec<Rule>, OutOfMemory>

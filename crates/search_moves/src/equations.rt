@@ -1,10 +1,12 @@
 // Equations of a symbolic state.
 ghost use Rattle.std.specs.Prelude.{◌≡◌, ◌&&◌, ◌||◌, IfOk};
-ghost use Rattle.search_moves.specs.States.{stands_in_others, some_other_has, is_logical as is_logical_term, occurs_elsewhere as occurs_outside, state_side, state_rewrites as state_rewrites_of};
+ghost use Rattle.search_moves.specs.States.{stands_in_others, some_other_has, is_logical as is_logical_term};
+ghost use Rattle.search_moves.specs.States.{occurs_elsewhere as occurs_outside, state_side};
+ghost use Rattle.search_moves.specs.States.{state_rewrites as state_rewrites_of};
 
 use crate::places::alone;
 use back_links::{some_spatial_has, stands_in_pure};
-use cyc_memory::OutOfMemory;
+use cyc_basics::memory::OutOfMemory;
 use heap_formula::{Heap, Pure, Rule, Side, Spatial, Term};
 use rule_table::same_term;
 use std::alloc::Global;

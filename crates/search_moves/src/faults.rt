@@ -5,11 +5,13 @@ ghost use Rattle.heap_formula.specs.declared.terms.Term.{Term};
 ghost use Rattle.heap_formula.specs.Words.{max_of};
 ghost use Rattle.heap_formula.specs.Fresh.{heap_numbers};
 ghost use Rattle.rule_table.specs.RuleBook.{variables_of as program_variables_of};
-ghost use Rattle.rule_table.specs.Table.{choose_answer, done_answer, frame_answer, instantiate_answer, pure_right_answer, unfold_answer, unfold_right_answer};
-ghost use Rattle.search_moves.specs.Rooms.{has_room_for as case_has_room, has_room_from as case_has_room_from, judgement_numbers};
+ghost use Rattle.rule_table.specs.Table.{choose_answer, done_answer, frame_answer, instantiate_answer};
+ghost use Rattle.rule_table.specs.Table.{pure_right_answer, unfold_answer, unfold_right_answer};
+ghost use Rattle.search_moves.specs.Rooms.{has_room_for as case_has_room, has_room_from as case_has_room_from};
+ghost use Rattle.search_moves.specs.Rooms.{judgement_numbers};
 ghost use Rattle.search_moves.specs.Trying.{has_premises};
 
-use cyc_limits::{MOST_PURE, VARIABLE_NUMBERS};
+use cyc_basics::limits::{MOST_PURE, VARIABLE_NUMBERS};
 use goto_lang::Program;
 use heap_formula::{Heap, Judgement, Spatial, Variables, bound_in_heap};
 use pred_defs::Defs;
@@ -20,7 +22,7 @@ use rule_table::{
 };
 
 /// Whether nothing is left on either side.
-pub fn may_end(judgement: &Judgement) -> bool
+pub fn done_applies(judgement: &Judgement) -> bool
     ensures { result ≡ has_premises (done_answer judgement.now) }
 {
     let Judgement::Entail(a, bs) = judgement else {

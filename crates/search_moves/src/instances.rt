@@ -2,11 +2,15 @@
 ghost use Rattle.std.specs.Prelude.{◌≡◌, ◌++◌, ◌||◌, not, IfOk, OnOk, map};
 ghost use Rattle.rule_table.specs.Tests.{is_universal as is_universal_term, same_term as same_terms};
 ghost use Rattle.std.specs.List.{list_any};
-ghost use Rattle.fold_offers.specs.Places.{each_of};
-ghost use Rattle.search_moves.specs.Entailments.{equation_instance as equation_instance_of, equation_instances, instance_at as instance_at_place, first_instance as first_instance_of, field_instance as field_instance_of, fields_with, field_instances, agree as agree_on, argument_instance as argument_instance_of, arguments_with, argument_instances, instance_rule};
+ghost use Rattle.search_moves.specs.Places.{each_of};
+ghost use Rattle.search_moves.specs.Entailments.{equation_instance as equation_instance_of, equation_instances};
+ghost use Rattle.search_moves.specs.Entailments.{instance_at as instance_at_place, first_instance as first_instance_of};
+ghost use Rattle.search_moves.specs.Entailments.{field_instance as field_instance_of, fields_with, field_instances};
+ghost use Rattle.search_moves.specs.Entailments.{agree as agree_on, argument_instance as argument_instance_of};
+ghost use Rattle.search_moves.specs.Entailments.{arguments_with, argument_instances, instance_rule};
 ghost use Rattle.search_moves.specs.Instances.{is_rule_by, rules_once};
 
-use cyc_memory::OutOfMemory;
+use cyc_basics::memory::OutOfMemory;
 use heap_formula::{Pure, Rule, Spatial, Term};
 use rule_table::{is_universal, same_term};
 use std::alloc::Global;

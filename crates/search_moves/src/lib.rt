@@ -8,6 +8,7 @@ mod distincts;
 mod entailments;
 mod equations;
 mod faults;
+pub mod folds;
 mod instances;
 mod offered;
 mod offering;

@@ -2,28 +2,29 @@
 ghost use Rattle.std.specs.Prelude.{◌≡◌, ◌<◌, ℕ, ◌≤◌, IfOk, length};
 ghost use Rattle.heap_formula.specs.Words.{Each};
 ghost use Rattle.heap_formula.specs.Meaning.{cases_of};
-ghost use Rattle.fold_offers.specs.Limits.{HasFewParameters};
+ghost use Rattle.search_moves.specs.FoldLimits.{HasFewParameters};
 ghost use Rattle.proof_graph.specs.Nodes.{HasJudgement};
 ghost use Rattle.search_moves.specs.Closing.{CloseAlike, IsPart, OffersClosing, OffersPart};
 ghost use Rattle.search_moves.specs.Limits.{IsSmall};
 ghost use Rattle.search_moves.specs.Settings.{theory_of, theory};
-ghost use Rattle.search_moves.specs.Offering.{candidates as candidates_of, rules_before as rules_before_links, rules_after as rules_after_links, OffersLinks, OffersRules};
+ghost use Rattle.search_moves.specs.Offering.{candidates as candidates_of, rules_before as rules_before_links};
+ghost use Rattle.search_moves.specs.Offering.{rules_after as rules_after_links, OffersLinks, OffersRules};
 
 use crate::closing::{closing_rules, have_cases};
 use crate::companions::candidates;
 use crate::entailments::rule_alone;
 use crate::offered::Offers;
 use crate::places::rewrites;
-use crate::setting::Setting;
+use crate::setting::GoalSetting;
 use crate::{entailments, states};
-use cyc_memory::OutOfMemory;
+use cyc_basics::memory::OutOfMemory;
 use goto_lang::Program;
 use heap_formula::{Judgement, Rule};
 use pred_defs::Defs;
 use proof_graph::Graph;
 use std::alloc::Global;
 
-fn rules_before(alloc: Global, at: &Setting<'_>) -> Result<Vec<Rule>, OutOfMemory>
+fn rules_before(alloc: Global, at: &GoalSetting<'_>) -> Result<Vec<Rule>, OutOfMemory>
     ensures { IfOk result (λ v. v.items ≡ rules_before_links (theory_of at.now) at.now.judgement.now) }
 {
     let rules = rule_alone(alloc, at, Rule::Absurd)?;
@@ -39,7 +40,7 @@ fn rules_before(alloc: Global, at: &Setting<'_>) -> Result<Vec<Rule>, OutOfMemor
 
 fn rules_after(
     alloc: Global,
-    at: &Setting<'_>,
+    at: &GoalSetting<'_>,
     graph: &Graph<'_>,
     goal: u32,
 ) -> Result<Vec<Rule>, OutOfMemory>
@@ -61,7 +62,7 @@ fn rules_after(
 /// The same, but for rules that leave premises: those may be left out.
 fn closing_rules_after(
     alloc: Global,
-    at: &Setting<'_>,
+    at: &GoalSetting<'_>,
     graph: &Graph<'_>,
     goal: u32,
 ) -> Result<Vec<Rule>, OutOfMemory>
@@ -84,7 +85,7 @@ fn closing_rules_after(
 /// These rules, beside the links to be tried.
 fn beside_links(
     alloc: Global,
-    at: &Setting<'_>,
+    at: &GoalSetting<'_>,
     graph: &Graph<'_>,
     goal: u32,
     rules: Vec<Rule>,
@@ -132,7 +133,7 @@ pub fn offers_of(
     ensures links { IfOk result (λ o. OffersLinks (theory defs.now program.now) graph.now goal o.links.items) }
     ensures rules { IfOk result (λ o. OffersRules (theory defs.now program.now) graph.now goal o.rules.items) }
 {
-    let at = Setting {
+    let at = GoalSetting {
         defs,
         program,
         judgement,
@@ -165,7 +166,7 @@ pub fn closing_offers(
     ensures rules { IfOk result (λ o. OffersClosing (theory defs.now program.now) graph.now goal o.rules.items) }
     ensures offered { IfOk result (λ o. OffersPart (theory defs.now program.now) graph.now goal o.rules.items) }
 {
-    let at = Setting {
+    let at = GoalSetting {
         defs,
         program,
         judgement,

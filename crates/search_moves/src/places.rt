@@ -1,10 +1,13 @@
 // Rules that name atoms by their places.
 ghost use Rattle.std.specs.Prelude.{◌≡◌, ◌≤◌, [], ◌∷◌, ◌++◌, IfOk, OnOk, length};
-ghost use Rattle.search_moves.specs.Entailments.{choices as choices_of, unfolds as unfolds_of, pure_rights as pure_rights_of, rewrites as rewrites_of, side_of, frames_from, cell_frames as cell_frames_of, predicate_frames as predicate_frames_of};
+ghost use Rattle.search_moves.specs.Entailments.{choices as choices_of, unfolds as unfolds_of};
+ghost use Rattle.search_moves.specs.Entailments.{pure_rights as pure_rights_of, rewrites as rewrites_of, side_of};
+ghost use Rattle.search_moves.specs.Entailments.{frames_from, cell_frames as cell_frames_of};
+ghost use Rattle.search_moves.specs.Entailments.{predicate_frames as predicate_frames_of};
 
-use cyc_limits::MOST_PURE;
-use cyc_memory::OutOfMemory;
-use fold_offers::{is_cell, is_predicate};
+use crate::folds::{is_cell, is_predicate};
+use cyc_basics::limits::MOST_PURE;
+use cyc_basics::memory::OutOfMemory;
 use heap_formula::{Heap, Pure, Rule, Side, Spatial, Term};
 use rule_table::same_term;
 use std::alloc::Global;

@@ -5,13 +5,15 @@ ghost use Rattle.heap_formula.specs.Substitution.{in_pure, in_spatial};
 ghost use Rattle.heap_formula.specs.Meaning.{cases_of};
 ghost use Rattle.rule_table.specs.Table.{right_term};
 ghost use Rattle.rule_table.specs.Tests.{some_cell_at};
-ghost use Rattle.fold_offers.specs.Places.{each_place};
+ghost use Rattle.search_moves.specs.Places.{each_place};
 ghost use Rattle.search_moves.specs.Settings.{theory_of};
-ghost use Rattle.search_moves.specs.Entailments.{has_place as has_place_at, may_follow as may_follow_at, all_may_follow, may_unfold_case, right_unfold_at, right_unfolds as right_unfolds_of};
+ghost use Rattle.search_moves.specs.Entailments.{has_place as has_place_at, may_follow as may_follow_at};
+ghost use Rattle.search_moves.specs.Entailments.{all_may_follow, may_unfold_case, right_unfold_at};
+ghost use Rattle.search_moves.specs.Entailments.{right_unfolds as right_unfolds_of};
 
 use crate::distincts::push_distincts_for;
-use crate::setting::{Setting, some_goes};
-use cyc_memory::OutOfMemory;
+use crate::setting::{GoalSetting, some_goes};
+use cyc_basics::memory::OutOfMemory;
 use heap_formula::{Args, Heap, Pure, Rule, Spatial, Term};
 use rule_table::{follows, is_universal_pure, same_term};
 use std::alloc::Global;
@@ -79,7 +81,12 @@ fn have_places(atoms: &[Spatial], args: &Args, case: &[Spatial]) -> bool
 }
 
 /// Whether the atom has an existential, follows, or is a disequation that some Distinct appends.
-fn may_follow(alloc: Global, at: &Setting<'_>, left: &Heap, atom: Pure) -> Result<bool, OutOfMemory>
+fn may_follow(
+    alloc: Global,
+    at: &GoalSetting<'_>,
+    left: &Heap,
+    atom: Pure,
+) -> Result<bool, OutOfMemory>
     ensures { IfOk result (λ b. b ≡ may_follow_at (theory_of at.now) at.now.judgement.now left.now atom) }
 {
     if !is_universal_pure(atom) || follows(left.pure(), atom) {
@@ -92,7 +99,7 @@ fn may_follow(alloc: Global, at: &Setting<'_>, left: &Heap, atom: Pure) -> Resul
 
 fn may_all_follow(
     alloc: Global,
-    at: &Setting<'_>,
+    at: &GoalSetting<'_>,
     left: &Heap,
     args: &Args,
     case: &[Pure],
@@ -109,7 +116,7 @@ fn may_all_follow(
 
 fn may_unfold(
     alloc: Global,
-    at: &Setting<'_>,
+    at: &GoalSetting<'_>,
     left: &Heap,
     args: &Args,
     case: &Heap,
@@ -127,7 +134,7 @@ fn may_unfold(
 fn push_cases(
     rules: &mut Vec<Rule>,
     alloc: Global,
-    at: &Setting<'_>,
+    at: &GoalSetting<'_>,
     left: &Heap,
     k: u32,
     args: &Args,
@@ -149,7 +156,7 @@ fn push_cases(
 pub fn push_right_unfolds(
     rules: &mut Vec<Rule>,
     alloc: Global,
-    at: &Setting<'_>,
+    at: &GoalSetting<'_>,
     left: &Heap,
     right: &[Spatial],
 ) -> Result<(), OutOfMemory>

@@ -1,14 +1,15 @@
 // What is assumed, and which rules have no fault.
 ghost use Rattle.std.specs.Prelude.{◌≡◌, IfOk, false, take};
 ghost use Rattle.std.specs.List.{filter, list_any};
-ghost use Rattle.fold_offers.specs.Places.{first_that};
-ghost use Rattle.search_moves.specs.Trying.{goes as goes_at};
+ghost use Rattle.search_moves.specs.Places.{first_that};
+ghost use Rattle.search_moves.specs.Trying.{is_applicable as is_applicable_at};
 ghost use Rattle.search_moves.specs.Settings.{theory_of};
 
 use crate::faults::{
-    has_room_left, has_room_right, may_choose, may_drop_right, may_end, may_frame, may_instantiate,
+    done_applies, has_room_left, has_room_right, may_choose, may_drop_right, may_frame,
+    may_instantiate,
 };
-use cyc_memory::OutOfMemory;
+use cyc_basics::memory::OutOfMemory;
 use goto_lang::Program;
 use heap_formula::{Judgement, Rule, RuleError};
 use pred_defs::Defs;
@@ -17,19 +18,19 @@ use std::alloc::Global;
 
 /// A judgement, and what is assumed: the definitions and the program.
 #[derive(Clone, Copy)]
-pub struct Setting<'a> {
+pub struct GoalSetting<'a> {
     pub defs: &'a Defs,
     pub program: &'a Program,
     pub judgement: &'a Judgement,
 }
 
 /// Whether the rule has no fault.
-pub fn goes(alloc: Global, at: &Setting<'_>, rule: &Rule) -> Result<bool, OutOfMemory>
-    ensures { IfOk result (λ b. b ≡ goes_at (theory_of at.now) at.now.judgement.now rule.now) }
+pub fn is_applicable(alloc: Global, at: &GoalSetting<'_>, rule: &Rule) -> Result<bool, OutOfMemory>
+    ensures { IfOk result (λ b. b ≡ is_applicable_at (theory_of at.now) at.now.judgement.now rule.now) }
 {
     let judgement = at.judgement;
     match rule {
-        Rule::Done => Ok(may_end(judgement)),
+        Rule::Done => Ok(done_applies(judgement)),
         Rule::Choose(k) => Ok(may_choose(judgement, *k)),
         Rule::PureRight(k) => Ok(may_drop_right(judgement, *k)),
         Rule::Instantiate(_, _) => Ok(may_instantiate(judgement)),
@@ -41,8 +42,8 @@ pub fn goes(alloc: Global, at: &Setting<'_>, rule: &Rule) -> Result<bool, OutOfM
 }
 
 /// Whether the rule has premises, which are made and dropped.
-fn has_answer(alloc: Global, at: &Setting<'_>, rule: &Rule) -> Result<bool, OutOfMemory>
-    ensures { IfOk result (λ b. b ≡ goes_at (theory_of at.now) at.now.judgement.now rule.now) }
+fn has_answer(alloc: Global, at: &GoalSetting<'_>, rule: &Rule) -> Result<bool, OutOfMemory>
+    ensures { IfOk result (λ b. b ≡ is_applicable_at (theory_of at.now) at.now.judgement.now rule.now) }
 {
     match premises(alloc, at.defs, at.program, at.judgement, rule) {
         Ok(_) => Ok(true),
@@ -54,16 +55,16 @@ fn has_answer(alloc: Global, at: &Setting<'_>, rule: &Rule) -> Result<bool, OutO
 /// The first rules without a fault, at most so many.
 fn first_that_go(
     alloc: Global,
-    at: &Setting<'_>,
+    at: &GoalSetting<'_>,
     mut rules: Vec<Rule>,
     most: usize,
 ) -> Result<Vec<Rule>, OutOfMemory>
     ensures { IfOk result (λ v. v.items
-        ≡ take most (filter (goes_at (theory_of at.now) at.now.judgement.now) rules.items)) }
+        ≡ take most (filter (is_applicable_at (theory_of at.now) at.now.judgement.now) rules.items)) }
 {
     let mut kept = 0;
     for k in 0..rules.len() {
-        if kept < most && goes(alloc, at, &rules[k])? {
+        if kept < most && is_applicable(alloc, at, &rules[k])? {
             rules.swap(kept, k);
             kept += 1;
         }
@@ -75,10 +76,10 @@ fn first_that_go(
 /// The rules without a fault.
 pub fn those_that_go(
     alloc: Global,
-    at: &Setting<'_>,
+    at: &GoalSetting<'_>,
     rules: Vec<Rule>,
 ) -> Result<Vec<Rule>, OutOfMemory>
-    ensures { IfOk result (λ v. v.items ≡ filter (goes_at (theory_of at.now) at.now.judgement.now) rules.items) }
+    ensures { IfOk result (λ v. v.items ≡ filter (is_applicable_at (theory_of at.now) at.now.judgement.now) rules.items) }
 {
     let most = rules.len();
     first_that_go(alloc, at, rules, most)
@@ -87,20 +88,21 @@ pub fn those_that_go(
 /// The first rule without a fault.
 pub fn first_that_goes(
     alloc: Global,
-    at: &Setting<'_>,
+    at: &GoalSetting<'_>,
     rules: Vec<Rule>,
 ) -> Result<Vec<Rule>, OutOfMemory>
-    ensures { IfOk result (λ v. v.items ≡ first_that (goes_at (theory_of at.now) at.now.judgement.now) rules.items) }
+    ensures { IfOk result (λ v. v.items ≡ first_that (is_applicable_at (theory_of at.now) at.now.judgement.now)
+        rules.items) }
 {
     first_that_go(alloc, at, rules, 1)
 }
 
 /// Whether one of the rules has no fault.
-pub fn some_goes(alloc: Global, at: &Setting<'_>, rules: &[Rule]) -> Result<bool, OutOfMemory>
-    ensures { IfOk result (λ b. b ≡ list_any (goes_at (theory_of at.now) at.now.judgement.now) rules.now) }
+pub fn some_goes(alloc: Global, at: &GoalSetting<'_>, rules: &[Rule]) -> Result<bool, OutOfMemory>
+    ensures { IfOk result (λ b. b ≡ list_any (is_applicable_at (theory_of at.now) at.now.judgement.now) rules.now) }
 {
     for rule in rules {
-        if goes(alloc, at, rule)? {
+        if is_applicable(alloc, at, rule)? {
             return Ok(true);
         }
     }

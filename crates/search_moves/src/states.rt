@@ -4,17 +4,19 @@ ghost use Rattle.std.specs.List.{list_any};
 ghost use Rattle.heap_formula.specs.Programs.{counted_from_one, program_variables};
 ghost use Rattle.rule_table.specs.Tests.{equated as are_equated};
 ghost use Rattle.search_moves.specs.Settings.{theory_of};
-ghost use Rattle.search_moves.specs.States.{wanted_cell as wanted_by, reaches as reaches_term, unfolds_at as unfolds_at_term, lacks_cell, cell_unfolds, stops_that_go, folds_if, state_rewrites as state_rewrites_of, state_after};
+ghost use Rattle.search_moves.specs.States.{wanted_cell as wanted_by, reaches as reaches_term};
+ghost use Rattle.search_moves.specs.States.{unfolds_at as unfolds_at_term, lacks_cell, cell_unfolds, stops_that_go};
+ghost use Rattle.search_moves.specs.States.{folds_if, state_rewrites as state_rewrites_of, state_after};
 ghost use Rattle.heap_formula.specs.Words.{Each};
-ghost use Rattle.fold_offers.specs.Limits.{HasFewParameters};
-ghost use Rattle.fold_offers.specs.Places.{first_line};
+ghost use Rattle.search_moves.specs.FoldLimits.{HasFewParameters};
+ghost use Rattle.search_moves.specs.Places.{first_line};
 
 use crate::entailments::rule_alone;
 use crate::equations::state_rewrites;
-use crate::setting::{Setting, those_that_go};
+use crate::folds::folds;
+use crate::setting::{GoalSetting, those_that_go};
 use crate::ways::{came_by_exec, was_worked_on};
-use cyc_memory::OutOfMemory;
-use fold_offers::folds;
+use cyc_basics::memory::OutOfMemory;
 use goto_lang::Program;
 use heap_formula::{Command, Heap, Pure, Rule, RuleError, RuleFault, Spatial, Term};
 use proof_graph::Graph;
@@ -74,7 +76,7 @@ fn push_unfolds_at(rules: &mut Vec<Rule>, state: &Heap, term: Term) -> Result<()
     Ok(())
 }
 
-fn misses_cell(alloc: Global, at: &Setting<'_>) -> Result<bool, OutOfMemory>
+fn misses_cell(alloc: Global, at: &GoalSetting<'_>) -> Result<bool, OutOfMemory>
     ensures { IfOk result (λ b. b ≡ lacks_cell (theory_of at.now) at.now.judgement.now) }
 {
     match premises(alloc, at.defs, at.program, at.judgement, &Rule::Exec) {
@@ -88,7 +90,7 @@ fn misses_cell(alloc: Global, at: &Setting<'_>) -> Result<bool, OutOfMemory>
 fn push_missing_unfolds(
     rules: &mut Vec<Rule>,
     alloc: Global,
-    at: &Setting<'_>,
+    at: &GoalSetting<'_>,
     line: u32,
     state: &Heap,
 ) -> Result<(), OutOfMemory>
@@ -105,7 +107,7 @@ fn push_missing_unfolds(
 }
 
 /// Exec at `stop`.
-fn stops(alloc: Global, at: &Setting<'_>, line: u32) -> Result<Vec<Rule>, OutOfMemory>
+fn stops(alloc: Global, at: &GoalSetting<'_>, line: u32) -> Result<Vec<Rule>, OutOfMemory>
     ensures { IfOk result (λ v. v.items ≡ stops_that_go (theory_of at.now) at.now.judgement.now line) }
 {
     if !matches!(command_at(at.program, line), Some(Command::Stop)) {
@@ -117,7 +119,7 @@ fn stops(alloc: Global, at: &Setting<'_>, line: u32) -> Result<Vec<Rule>, OutOfM
 /// What goes before links at a state, but for Absurd.
 pub fn rules_before(
     alloc: Global,
-    at: &Setting<'_>,
+    at: &GoalSetting<'_>,
     line: u32,
     state: &Heap,
 ) -> Result<Vec<Rule>, OutOfMemory>
@@ -134,7 +136,7 @@ pub fn rules_before(
 /// The folds, where Exec stands above and the line was worked on before.
 fn folds_behind_exec(
     alloc: Global,
-    at: &Setting<'_>,
+    at: &GoalSetting<'_>,
     graph: &Graph<'_>,
     goal: u32,
     line: u32,
@@ -153,7 +155,7 @@ fn folds_behind_exec(
 /// What comes at a state where no link is admitted.
 pub fn rules_after(
     alloc: Global,
-    at: &Setting<'_>,
+    at: &GoalSetting<'_>,
     graph: &Graph<'_>,
     goal: u32,
     line: u32,

@@ -5,7 +5,9 @@ ghost use Rattle.std.specs.Option.{option_copied};
 ghost use Rattle.proof_graph.specs.HeapViews.{judgement_of};
 ghost use Rattle.proof_graph.specs.ReasonViews.{rule_of, reason_of};
 ghost use Rattle.search_moves.specs.Ways.{said_by};
-ghost use Rattle.search_moves.specs.States.{is_work as is_work_rule, is_unfold as is_unfold_rule, has_rule, by_exec, is_number, fills as fills_premises, climbs, is_on_line as is_on_line_judgement, works_on as works_on_line};
+ghost use Rattle.search_moves.specs.States.{is_work as is_work_rule, is_unfold as is_unfold_rule, has_rule, by_exec};
+ghost use Rattle.search_moves.specs.States.{is_number, fills as fills_premises, climbs};
+ghost use Rattle.search_moves.specs.States.{is_on_line as is_on_line_judgement, works_on as works_on_line};
 
 use proof_graph::{Graph, JudgementView, NodeView, PremiseView, ReasonView, RuleView};
 

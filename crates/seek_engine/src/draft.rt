@@ -1,13 +1,13 @@
 // The draft of a proof.
 ghost use Rattle.std.specs.Prelude.{◌<◌};
 
-use cyc_memory::OutOfMemory;
+use cyc_basics::memory::OutOfMemory;
 use heap_formula::{Judgement, Pairs, Premise, Reason, Rule};
 use std::alloc::Global;
 use std::mem::swap;
 
 /// The greatest number of nodes of a draft.
-pub const MOST_NODES: usize = 3000;
+pub const MOST_DRAFT_NODES: usize = 3000;
 
 /// An edge to a premise: its trace pairs, and its node as soon as it has one.
 #[derive(Drop)]
@@ -69,7 +69,8 @@ impl Draft {
         stuck
     }
 
-    /// Keeps a node's judgement on which the search gives up below so many others, if it is one of a program and the deepest so far.
+    /// Keeps a node's judgement on which the search gives up below so many others, if it is one of a program and the
+    /// deepest so far.
     pub fn give_up(&mut self, node: u32, depth: usize) -> Result<(), OutOfMemory> {
         if depth <= self.depth {
             return Ok(());
@@ -98,7 +99,7 @@ impl Draft {
     /// Puts an open node at the end, unless there is no room.
     pub fn push(&mut self, judgement: Judgement, parent: u32) -> Result<Option<u32>, OutOfMemory> {
         let number = self.nodes.len();
-        if number >= MOST_NODES {
+        if number >= MOST_DRAFT_NODES {
             drop(judgement);
             return Ok(None);
         }

@@ -3,7 +3,7 @@ use crate::draft::Draft;
 use crate::frames::{Frame, Task};
 use crate::moves::{Aim, Move, Strategy};
 use crate::setting::Setting;
-use cyc_memory::OutOfMemory;
+use cyc_basics::memory::OutOfMemory;
 
 /// The greatest number of turns of a search, whatever they do.
 const MOST_TURNS: u32 = 4_000_000;
@@ -21,8 +21,8 @@ struct Spent {
     links: u32,
 }
 
-/// A search on its way: the nodes that are being worked on, each a premise of the one before it. Where none is left, `is_found`
-/// says whether the first is closed.
+/// A search on its way: the nodes that are being worked on, each a premise of the one before it. Where none is left,
+/// `is_found` says whether the first is closed.
 #[derive(Drop)]
 struct Attempt {
     frames: Vec<Frame>,

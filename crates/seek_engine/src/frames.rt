@@ -3,7 +3,7 @@ use crate::draft::Draft;
 use crate::moves::{Aim, Move, Stage, Step};
 use crate::setting::Setting;
 use crate::traces::link;
-use cyc_memory::OutOfMemory;
+use cyc_basics::memory::OutOfMemory;
 use heap_formula::{Judgement, Premise, Rule};
 use std::alloc::Global;
 
@@ -22,8 +22,9 @@ pub struct Goal {
     pub task: Task,
 }
 
-/// A node that is being worked on. `moves` are left of the stage before `stage`, the next one at the end; `goals` are the
-/// premises of the move that is being made, the next one at the end; `kept` is how many nodes the draft had before, and
+/// A node that is being worked on. `moves` are left of the stage before `stage`, the next one at the end; `goals` are
+/// the premises of the move that is being made, the next one at the end; `kept` is how many nodes the draft had before,
+/// and
 /// `most` the number of steps at which the work ends.
 #[derive(Drop)]
 pub struct Frame {

@@ -1,6 +1,6 @@
-//! A search for cyclic proofs that does as it likes: one draft of a proof is grown depth first, by moves that a strategy
-//! offers; here are those at entailments. A premise that is closed stays closed, so alternatives add up and do not multiply.
-//! Nothing here is promised of what is found beyond its shape: it is checked before it counts.
+//! A search for cyclic proofs that does as it likes: one draft of a proof is grown depth first, by moves that a
+//! strategy offers; here are those at entailments. A premise that is closed stays closed, so alternatives add up and do
+//! not multiply. Nothing here is promised of what is found beyond its shape: it is checked before it counts.
 #![tactic(auto)]
 
 mod draft;
@@ -11,8 +11,8 @@ mod moves;
 mod setting;
 mod traces;
 
-pub use cyc_memory::OutOfMemory;
-pub use draft::{Draft, DraftEdge, DraftNode, MOST_NODES};
+pub use cyc_basics::memory::OutOfMemory;
+pub use draft::{Draft, DraftEdge, DraftNode, MOST_DRAFT_NODES};
 pub use engine::{Outcome, search};
 pub use entailments::{
     Entailments, LAST_STAGE, Matcher, Matching, companions, distinct_for, first_equation,

@@ -1,6 +1,6 @@
 // What may be done at a node of a draft.
 use crate::draft::Draft;
-use cyc_memory::OutOfMemory;
+use cyc_basics::memory::OutOfMemory;
 use heap_formula::Rule;
 
 /// What is to be reached at a node.
@@ -31,8 +31,8 @@ pub enum Aim {
     },
 }
 
-/// Rules one after the other, each at the last premise of the one before it. What is to be reached at the other premises of
-/// the first rule is `side`, if it is given, and everywhere else `aim`.
+/// Rules one after the other, each at the last premise of the one before it. What is to be reached at the other
+/// premises of the first rule is `side`, if it is given, and everywhere else `aim`.
 #[derive(Drop)]
 pub struct Step {
     pub rules: Vec<Rule>,
@@ -51,8 +51,8 @@ pub enum Move {
     Turn(Aim),
 }
 
-/// Moves, the first to be tried first, and whether they are the last that the node is offered. `cost` is how many steps they
-/// took to find.
+/// Moves, the first to be tried first, and whether they are the last that the node is offered. `cost` is how many steps
+/// they took to find.
 #[derive(Drop)]
 pub struct Stage {
     pub moves: Vec<Move>,

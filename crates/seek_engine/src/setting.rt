@@ -1,5 +1,5 @@
 // What a search is over.
-use cyc_memory::OutOfMemory;
+use cyc_basics::memory::OutOfMemory;
 use goto_lang::Program;
 use heap_formula::{Judgement, Premise, Rule, RuleError};
 use pred_defs::Defs;
@@ -34,7 +34,7 @@ impl Setting<'_> {
     }
 
     /// Whether the rule has no fault.
-    pub fn goes(&self, judgement: &Judgement, rule: &Rule) -> Result<bool, OutOfMemory> {
+    pub fn is_applicable(&self, judgement: &Judgement, rule: &Rule) -> Result<bool, OutOfMemory> {
         let premises = self.premises(judgement, rule)?;
         Ok(premises.is_some())
     }

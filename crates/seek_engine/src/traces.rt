@@ -3,19 +3,19 @@ use crate::draft::{Draft, DraftEdge};
 use crate::setting::Setting;
 use back_links::all_links;
 use buchi_inclusion::{Inclusion, included};
-use cyc_memory::OutOfMemory;
+use cyc_basics::memory::OutOfMemory;
 use heap_formula::{Heap, Link, Pair, Reason, RuleError, Spatial};
-use node_reasons::premises_by_reason;
+use rule_book::reasons::premises_by_reason;
 use rule_book::variables_of;
 use rule_table::antecedent;
 use std::alloc::Global;
 use trace_pairs::{Edge, Node, TraceGraph, is_graph};
 
 /// The greatest number of product states of a draft's trace graph.
-const MOST_STATES: u32 = 10_000;
+const MOST_STATES_TRIED: u32 = 10_000;
 
 /// The greatest number of links that are looked at between two nodes.
-const MOST_LINKS: u32 = 64;
+const MOST_LINKS_TRIED: u32 = 64;
 
 /// The places of predicate atoms.
 fn positions(alloc: Global, heap: &Heap) -> Result<Vec<u8>, OutOfMemory> {
@@ -69,7 +69,7 @@ pub fn progresses(alloc: Global, draft: &Draft) -> Result<bool, OutOfMemory> {
     if !is_graph(&graph) {
         return Ok(false);
     }
-    let inclusion = included(alloc, &graph, MOST_STATES)?;
+    let inclusion = included(alloc, &graph, MOST_STATES_TRIED)?;
     Ok(matches!(inclusion, Inclusion::Included))
 }
 
@@ -89,7 +89,7 @@ fn links(
         &above.judgement,
         companion,
         variables,
-        MOST_LINKS,
+        MOST_LINKS_TRIED,
     )
 }
 

@@ -5,7 +5,7 @@ use crate::opening::{open, prepare_open};
 use crate::purposes::{Goal, Moved, Purpose};
 use crate::several::several;
 use crate::wholes::whole;
-use cyc_memory::OutOfMemory;
+use cyc_basics::memory::OutOfMemory;
 use seek_trees::{Stop, Work};
 use std::alloc::Global;
 

@@ -6,7 +6,7 @@ use seek_engine::close_by_link;
 use seek_trees::{Stop, Work};
 
 /// How many links are compared.
-const MOST_LINKS: u32 = 8;
+const MOST_FITS: u32 = 8;
 
 /// A link that fits but for pure atoms of the companion that do not follow.
 #[derive(Drop)]
@@ -59,7 +59,7 @@ fn links_of(work: &Work<'_>, bud: u32, companion: u32, most: u32) -> Result<Vec<
 pub fn best_fit(work: &Work<'_>, bud: u32, companion: u32) -> Result<Option<Fit>, Stop> {
     let mut best = None;
     let (asked, pure) = (work.left(companion).pure(), work.left(bud).pure());
-    for link in links_of(work, bud, companion, MOST_LINKS)? {
+    for link in links_of(work, bud, companion, MOST_FITS)? {
         let missing = missing(work, asked, &link, pure)?;
         if is_better(&best, &missing) {
             best = Some(Fit { link, missing });

@@ -41,8 +41,8 @@ impl Growth<'_> {
     }
 }
 
-/// Splits on two terms: where they are equal the goal is to be closed without links and without another unfolding, which may be
-/// one more goal; the node is the one where they differ.
+/// Splits on two terms: where they are equal the goal is to be closed without links and without another unfolding,
+/// which may be one more goal; the node is the one where they differ.
 pub fn split_aside(
     work: &mut Work<'_>,
     node: u32,
@@ -229,7 +229,8 @@ fn grow_wanted(work: &mut Work<'_>, growth: Growth<'_>, number: u32) -> Moved {
     }
 }
 
-/// The moves of the tactic: links, the latest companion first; what is forced; the empty case; a case with a cell, or Unfold.
+/// The moves of the tactic: links, the latest companion first; what is forced; the empty case; a case with a cell, or
+/// Unfold.
 pub fn grow(work: &mut Work<'_>, growth: Growth<'_>, number: u32) -> Moved {
     let count = number_of(growth.companions.len());
     if number < count {

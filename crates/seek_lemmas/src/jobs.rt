@@ -3,7 +3,7 @@ use crate::attempts::attempt;
 use crate::merging::merged;
 use crate::purposes::{Goal, Purpose};
 use crate::trials::{Trial, goal_trials, lemma_trials};
-use cyc_memory::OutOfMemory;
+use cyc_basics::memory::OutOfMemory;
 use heap_formula::Judgement;
 use seek_engine::{Aim, Draft, Entailments, Setting, progresses, search};
 use seek_trees::{Question, Stop, Tree, Work};
@@ -16,8 +16,8 @@ const MOST_TURNS: u32 = 400_000;
 /// The greatest fuel of the search with a goal stack.
 const FUEL: u32 = 9;
 
-/// A node that is being worked on: the move that comes next, how many nodes the tree had before, and, while a move is being made,
-/// the goals that are left of it, the next one last.
+/// A node that is being worked on: the move that comes next, how many nodes the tree had before, and, while a move is
+/// being made, the goals that are left of it, the next one last.
 #[derive(Drop)]
 struct Frame {
     node: u32,
@@ -28,8 +28,8 @@ struct Frame {
     goals: Vec<Goal>,
 }
 
-/// A judgement that is being tried: its place in the memo, unless it is the main goal; the ways that are left; the nodes that are
-/// being worked on; the tree of the job below it; and the steps that this one may take.
+/// A judgement that is being tried: its place in the memo, unless it is the main goal; the ways that are left; the
+/// nodes that are being worked on; the tree of the job below it; and the steps that this one may take.
 #[derive(Drop)]
 struct Job {
     judgement: Judgement,
@@ -48,7 +48,8 @@ enum Turn {
     Failed,
 }
 
-/// The work and the jobs, of which the last is being done. Where none is left, `is_found` says whether the goal was proved.
+/// The work and the jobs, of which the last is being done. Where none is left, `is_found` says whether the goal was
+/// proved.
 #[derive(Drop)]
 struct Shop<'a> {
     work: Work<'a>,

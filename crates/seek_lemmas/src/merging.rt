@@ -1,5 +1,5 @@
 // One draft of a tree and of the lemmas that it uses.
-use cyc_memory::OutOfMemory;
+use cyc_basics::memory::OutOfMemory;
 use heap_formula::{Judgement, Reason};
 use seek_engine::{Draft, DraftEdge, DraftNode};
 use seek_trees::{LemmaUse, Tree};

@@ -1,6 +1,6 @@
 // How a judgement is tried.
 use crate::purposes::{Purpose, is_plain, purpose_for};
-use cyc_memory::OutOfMemory;
+use cyc_basics::memory::OutOfMemory;
 use heap_formula::{Heap, Judgement, Pure, Term};
 use seek_trees::{Effort, Question};
 use std::alloc::Global;

@@ -6,8 +6,8 @@ use heap_formula::{Spatial, Term};
 use seek_shapes::differ;
 use seek_trees::{Stop, Work};
 
-/// The pairs of terms that have to differ: what the made atom asks for, and its root and end where its root is another one's
-/// end, so that this stays known as an address.
+/// The pairs of terms that have to differ: what the made atom asks for, and its root and end where its root is another
+/// one's end, so that this stays known as an address.
 fn wanted(work: &Work<'_>, made: &Spatial, ends: &[Term]) -> Result<Vec<(Term, Term)>, Stop> {
     let mut pairs = work.shapes.asks(made)?;
     if let (Some(root), Some(end)) = (work.shapes.root(made), work.shapes.target(made)?) {

@@ -6,15 +6,16 @@ use seek_trees::{Stop, Work};
 /// The number from which on variables stand for arguments that a join does not matter to.
 const MOVING: u16 = 61_000;
 
-/// Pure atoms of the lemma beside those that the made atom asks for, and the places of atoms that stand on both its sides.
+/// Pure atoms of the lemma beside those that the made atom asks for, and the places of atoms that stand on both its
+/// sides.
 #[derive(Drop)]
 pub struct Guard {
     pub pure: Vec<Pure>,
     pub places: Vec<u32>,
 }
 
-/// A join whose arguments that change on the way are variables: where such an argument stays a value, as `nil`, the induction
-/// would fail.
+/// A join whose arguments that change on the way are variables: where such an argument stays a value, as `nil`, the
+/// induction would fail.
 #[derive(Drop)]
 pub struct GeneralJoin {
     pub first: Spatial,
@@ -40,8 +41,8 @@ pub fn known_asks(
     Ok(known)
 }
 
-/// The guards in the order in which they are tried: none; that root and end differ, if that is known; atoms that show that the
-/// end is an address or `nil`.
+/// The guards in the order in which they are tried: none; that root and end differ, if that is known; atoms that show
+/// that the end is an address or `nil`.
 pub fn guards(
     work: &Work<'_>,
     node: u32,

@@ -59,7 +59,8 @@ fn convert_under(
     work.cut_by(node, &places, formula, instance)
 }
 
-/// An atom becomes one of another predicate with the same arguments: the general form is provable where an instance may not be.
+/// An atom becomes one of another predicate with the same arguments: the general form is provable where an instance may
+/// not be.
 pub fn convert(
     work: &mut Work<'_>,
     node: u32,

@@ -18,8 +18,8 @@ pub const EASY: Effort = Effort {
 /// The field of a cell that stands at the end of a way, whatever it holds.
 const FIELD: u16 = 63_000;
 
-/// What has to hold before a plan goes on: nothing; that an atom entails another; or that two atoms make a third, perhaps
-/// with a cell at its end.
+/// What has to hold before a plan goes on: nothing; that an atom entails another; or that two atoms make a third,
+/// perhaps with a cell at its end.
 #[derive(Clone, Copy)]
 pub enum Need {
     Nothing,

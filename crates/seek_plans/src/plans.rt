@@ -22,8 +22,8 @@ pub enum Item {
     Join(Join),
 }
 
-/// A plan on its way: what is left to do, the next one last; the places that are used; the joins, in order; and what has to
-/// hold before it goes on.
+/// A plan on its way: what is left to do, the next one last; the places that are used; the joins, in order; and what
+/// has to hold before it goes on.
 #[derive(Drop)]
 pub struct Draught {
     pub items: Vec<Item>,
@@ -114,8 +114,8 @@ fn turn(
     }
 }
 
-/// The joins by which the right side's atoms are made of the left side's, each of those used once, in an order in which they can
-/// be made.
+/// The joins by which the right side's atoms are made of the left side's, each of those used once, in an order in which
+/// they can be made.
 pub fn plan(work: &mut Work<'_>, node: u32) -> Result<Vec<Join>, Stop> {
     let draught = first(work, node)?;
     let mut open = vec![in work.setting.alloc; draught]?;

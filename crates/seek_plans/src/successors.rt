@@ -143,7 +143,8 @@ fn fields_at(case: &Heap, root: usize) -> Option<&[Term]> {
     None
 }
 
-/// The atoms in the order in which they go on the stack: those of the predicate itself first, so that the others are made before.
+/// The atoms in the order in which they go on the stack: those of the predicate itself first, so that the others are
+/// made before.
 fn ordered(work: &Work<'_>, rest: &[Spatial], predicate: u16) -> Result<Vec<Spatial>, Stop> {
     let mut order = Vec::new(work.setting.alloc);
     for atom in rest {
@@ -159,8 +160,8 @@ fn ordered(work: &Work<'_>, rest: &[Spatial], predicate: u16) -> Result<Vec<Spat
     Ok(order)
 }
 
-/// What a case asks for beside a cell, with the arguments of the atom that is aimed at and the cell's fields; nothing where it cannot
-/// be made so.
+/// What a case asks for beside a cell, with the arguments of the atom that is aimed at and the cell's fields; nothing
+/// where it cannot be made so.
 fn rest_of(
     work: &Work<'_>,
     cell: &Spatial,
@@ -210,7 +211,8 @@ fn is_aimed(args: &Args, aimed: Aimed<'_>) -> bool {
 }
 
 impl Ways<'_, '_> {
-    /// Adds a plan that uses these places, under a need, in which the parts become the atom; those that are wanted are made before.
+    /// Adds a plan that uses these places, under a need, in which the parts become the atom; those that are wanted are
+    /// made before.
     fn push(
         &mut self,
         places: &[u32],

@@ -3,7 +3,7 @@ use crate::commons::{Commons, is_fixed};
 use crate::folds::part_of;
 use crate::remainders::General;
 use crate::state_folds::StateFold;
-use cyc_memory::OutOfMemory;
+use cyc_basics::memory::OutOfMemory;
 use heap_formula::{Heap, Pure, Spatial, Term};
 use rule_table::{equated, follows, has_pure};
 
@@ -104,8 +104,8 @@ impl General {
         Ok(())
     }
 
-    /// Brings the disequations of fixed terms that both states have, the first one by these of its atoms, and that do not stay
-    /// as written.
+    /// Brings the disequations of fixed terms that both states have, the first one by these of its atoms, and that do
+    /// not stay as written.
     fn push_disequations(&mut self, commons: &Commons<'_>, seen: &Heap) -> Result<(), OutOfMemory> {
         let terms = commons.terms.as_slice();
         for (i, t) in terms.iter().enumerate() {
@@ -136,8 +136,8 @@ impl General {
         Ok(())
     }
 
-    /// Takes the folds into the change, and what they leave. Once it is known which atoms are cut away, what is left to say is
-    /// the order of the places, and the pure atoms.
+    /// Takes the folds into the change, and what they leave. Once it is known which atoms are cut away, what is left to
+    /// say is the order of the places, and the pure atoms.
     pub fn fill(&mut self, commons: &Commons<'_>, folds: &[&StateFold]) -> Result<(), OutOfMemory> {
         for fold in folds {
             self.take_fold(commons, fold)?;

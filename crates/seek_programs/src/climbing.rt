@@ -1,6 +1,6 @@
 // The way from a node up to the first.
 use heap_formula::{Judgement, Reason, Rule};
-use seek_engine::{Draft, DraftNode, MOST_NODES};
+use seek_engine::{Draft, DraftNode, MOST_DRAFT_NODES};
 
 fn parent<'a>(draft: &'a Draft, node: Option<&'a DraftNode>) -> Option<&'a DraftNode> {
     match node?.parent {
@@ -13,7 +13,7 @@ fn parent<'a>(draft: &'a Draft, node: Option<&'a DraftNode>) -> Option<&'a Draft
 pub fn visits(draft: &Draft, node: u32, line: u32) -> u32 {
     let mut count: u32 = 0;
     let mut above = parent(draft, draft.node(node));
-    for _ in 0..MOST_NODES {
+    for _ in 0..MOST_DRAFT_NODES {
         let Some(at) = above else {
             return count;
         };
@@ -34,7 +34,7 @@ pub fn visits(draft: &Draft, node: u32, line: u32) -> u32 {
 pub fn unfolds_here(draft: &Draft, node: u32) -> u32 {
     let mut count: u32 = 0;
     let mut above = parent(draft, draft.node(node));
-    for _ in 0..MOST_NODES {
+    for _ in 0..MOST_DRAFT_NODES {
         let Some(at) = above else {
             return count;
         };

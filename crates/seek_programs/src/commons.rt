@@ -1,12 +1,12 @@
 // Terms that two states have in common.
-use cyc_memory::OutOfMemory;
+use cyc_basics::memory::OutOfMemory;
 use heap_formula::{Heap, Spatial, Term};
 use rule_table::equated;
 use seek_engine::terms_of;
 use std::alloc::Global;
 
-/// Two states at one line, the later one being the run's, and what both may speak of: terms, and pairs of terms, of which
-/// one stands in the first state where the other stands in the second.
+/// Two states at one line, the later one being the run's, and what both may speak of: terms, and pairs of terms, of
+/// which one stands in the first state where the other stands in the second.
 #[derive(Drop)]
 pub struct Commons<'a> {
     pub alloc: Global,

@@ -1,6 +1,6 @@
 // Rules that lose nothing at a `from` judgement.
 use crate::heads::command_of;
-use cyc_memory::OutOfMemory;
+use cyc_basics::memory::OutOfMemory;
 use heap_formula::{
     Command, Heap, Judgement, Pure, Rule, Side, Spatial, Subst, Term, apply_to_heap,
 };
@@ -65,7 +65,7 @@ pub fn forced_rule(
     line: u32,
     state: &Heap,
 ) -> Result<Option<Rule>, OutOfMemory> {
-    if setting.goes(judgement, &Rule::Absurd)? {
+    if setting.is_applicable(judgement, &Rule::Absurd)? {
         return Ok(Some(Rule::Absurd));
     }
     if command_of(setting.program, line) == Some(Command::Stop) {
@@ -116,9 +116,9 @@ fn is_contradictory(setting: &Setting<'_>, judgement: &Judgement) -> Result<bool
         return Ok(false);
     };
     let settled = Judgement::Term(*line, settled(setting.alloc, state)?);
-    let goes = setting.goes(&settled, &Rule::Absurd);
+    let is_applicable = setting.is_applicable(&settled, &Rule::Absurd);
     drop(settled);
-    goes
+    is_applicable
 }
 
 /// Whether Exec is a test of which one outcome is absurd.

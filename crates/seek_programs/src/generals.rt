@@ -4,13 +4,13 @@ use crate::folds::{Fitting, cut_rule, heap_of};
 use crate::remainders::General;
 use crate::state_folds::{StateFold, push_state_folds};
 use crate::witnesses::push_witnesses;
-use cyc_memory::OutOfMemory;
+use cyc_basics::memory::OutOfMemory;
 use heap_formula::{Heap, Rule};
 use seek_engine::{Aim, Entailments, Move, Step};
 use std::alloc::Global;
 
 /// How many states are tried.
-const MOST_STATES: usize = 10;
+const MOST_GENERAL_STATES: usize = 10;
 
 /// How many sets of folds are looked at.
 const MOST_SETS: usize = 400;
@@ -167,7 +167,7 @@ pub fn push_general_moves(
     let mut all = Vec::new(alloc);
     push_all(&mut all, entailments, fitting, head, state, variables)?;
     all.sort_by_key(|general| general.score)?;
-    all.truncate(MOST_STATES);
+    all.truncate(MOST_GENERAL_STATES);
     for general in &all {
         push_move(alloc, moves, general, then)?;
     }

@@ -2,15 +2,15 @@
 use crate::commons::Commons;
 use crate::forced::is_predicate;
 use crate::state_folds::StateFold;
-use cyc_memory::OutOfMemory;
+use cyc_basics::memory::OutOfMemory;
 use heap_formula::{Args, Pure, Spatial, Term};
 use seek_engine::{args_of, arguments, is_alike};
 use std::alloc::Global;
 
-/// A change of the state at a head: atoms that are cut away, in ascending order, what comes in their place, and the pure
-/// atoms, and then spatial atoms after the Cut, that are left out, the last ones first; a score, of which a low one is good;
-/// and, while it is made, the places of the second state that are accounted for, and the pairs of terms that became
-/// existentials.
+/// A change of the state at a head: atoms that are cut away, in ascending order, what comes in their place, and the
+/// pure atoms, and then spatial atoms after the Cut, that are left out, the last ones first; a score, of which a low
+/// one is good; and, while it is made, the places of the second state that are accounted for, and the pairs of terms
+/// that became existentials.
 #[derive(Drop)]
 pub struct General {
     pub cut: Vec<u32>,
@@ -140,8 +140,8 @@ impl General {
         false
     }
 
-    /// Whether the second atom may be what became of the first: a cell of one address, or a predicate with a term at one
-    /// place; or if `is_whole`, whether both atoms say the same of common terms.
+    /// Whether the second atom may be what became of the first: a cell of one address, or a predicate with a term at
+    /// one place; or if `is_whole`, whether both atoms say the same of common terms.
     fn fits(&self, commons: &Commons<'_>, x: &Spatial, y: &Spatial, is_whole: bool) -> bool {
         if !is_alike(x, y) {
             return false;
@@ -166,8 +166,8 @@ impl General {
         None
     }
 
-    /// Puts what the atom and one of the second state have in common in the atom's place, if there is one: the same up to
-    /// equations if `is_whole`, and then nothing changes where both are written alike.
+    /// Puts what the atom and one of the second state have in common in the atom's place, if there is one: the same up
+    /// to equations if `is_whole`, and then nothing changes where both are written alike.
     fn join(
         &mut self,
         commons: &Commons<'_>,
@@ -187,8 +187,8 @@ impl General {
         Ok(true)
     }
 
-    /// Generalises the atoms at the places, either the cells or the predicates, to what both states have of each, or drops
-    /// them.
+    /// Generalises the atoms at the places, either the cells or the predicates, to what both states have of each, or
+    /// drops them.
     fn generalise(
         &mut self,
         commons: &Commons<'_>,

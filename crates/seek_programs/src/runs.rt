@@ -1,7 +1,7 @@
 // Steps of a run: Exec, or the Unfold that may lay bare its cell.
 use crate::forced::is_predicate;
 use crate::heads::command_of;
-use cyc_memory::OutOfMemory;
+use cyc_basics::memory::OutOfMemory;
 use heap_formula::{Command, Heap, Judgement, Rule, Spatial, Term};
 use rule_table::equated;
 use seek_engine::{Aim, Move, Setting, arguments, one_rule};
@@ -67,7 +67,7 @@ pub fn push_steps(
     state: &Heap,
     aim: Aim,
 ) -> Result<(), OutOfMemory> {
-    if setting.goes(judgement, &Rule::Exec)? {
+    if setting.is_applicable(judgement, &Rule::Exec)? {
         return push_rule(moves, setting.alloc, Rule::Exec, aim);
     }
     match wanted_address(command_of(setting.program, line)) {

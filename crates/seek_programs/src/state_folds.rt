@@ -2,7 +2,7 @@
 use crate::commons::Commons;
 use crate::folds::{Fitting, Places, subsets};
 use crate::forced::is_predicate;
-use cyc_memory::OutOfMemory;
+use cyc_basics::memory::OutOfMemory;
 use heap_formula::{Atom, Heap, Spatial, Term};
 use rule_table::equated;
 use seek_engine::{Entailments, args_of, arguments, is_alike, mentions};
@@ -50,7 +50,8 @@ fn count_of_tuples(count: usize, arity: u32) -> u32 {
     total
 }
 
-/// The predicate's atom with the tuple that has this number, in the terms of the first state and in those of the second.
+/// The predicate's atom with the tuple that has this number, in the terms of the first state and in those of the
+/// second.
 fn atoms_of(pairs: &[(Term, Term)], predicate: u16, arity: u32, number: u32) -> (Spatial, Spatial) {
     let mut first = [Term::Nil; 8];
     let mut second = [Term::Nil; 8];

@@ -5,7 +5,7 @@ use crate::forced::{forced_rule, is_decided};
 use crate::generals::push_general_moves;
 use crate::heads::is_head;
 use crate::runs::{push_rule, push_steps};
-use cyc_memory::OutOfMemory;
+use cyc_basics::memory::OutOfMemory;
 use heap_formula::{Heap, Judgement};
 use seek_engine::{Aim, Draft, Move, Setting, Stage, Strategy, companions, stage_of};
 
@@ -24,7 +24,7 @@ pub struct Programs<'a> {
 
 /// A `from` judgement of a draft.
 #[derive(Clone, Copy)]
-struct Place<'a> {
+struct LinePlace<'a> {
     draft: &'a Draft,
     node: u32,
     judgement: &'a Judgement,
@@ -32,10 +32,10 @@ struct Place<'a> {
     state: &'a Heap,
 }
 
-fn place_of<'a>(draft: &'a Draft, node: u32) -> Option<Place<'a>> {
+fn place_of<'a>(draft: &'a Draft, node: u32) -> Option<LinePlace<'a>> {
     let judgement = &draft.node(node)?.judgement;
     match judgement {
-        Judgement::Term(line, state) => Some(Place {
+        Judgement::Term(line, state) => Some(LinePlace {
             draft,
             node,
             judgement,
@@ -55,12 +55,16 @@ impl<'a> Programs<'a> {
         }
     }
 
-    fn is_at_head(&self, place: &Place<'_>) -> bool {
+    fn is_at_head(&self, place: &LinePlace<'_>) -> bool {
         is_head(self.setting.program, place.line) && unfolds_here(place.draft, place.node) == 0
     }
 
     /// Links to the companions, and folds to those of the same line.
-    fn push_closings(&self, moves: &mut Vec<Move>, place: &Place<'_>) -> Result<(), OutOfMemory> {
+    fn push_closings(
+        &self,
+        moves: &mut Vec<Move>,
+        place: &LinePlace<'_>,
+    ) -> Result<(), OutOfMemory> {
         let all = companions(self.setting.alloc, place.draft)?;
         for companion in &all {
             moves.push(Move::Link(*companion))?;
@@ -72,7 +76,7 @@ impl<'a> Programs<'a> {
     fn first_stage(
         &self,
         offered: &mut Stage,
-        place: &Place<'_>,
+        place: &LinePlace<'_>,
         aim: Aim,
     ) -> Result<(), OutOfMemory> {
         let setting = &self.setting;
@@ -87,7 +91,7 @@ impl<'a> Programs<'a> {
     }
 
     /// Whether the line was visited as often as it may be. Two visits more are free where a test is decided.
-    fn is_spent(&self, place: &Place<'_>, most: u32) -> Result<bool, OutOfMemory> {
+    fn is_spent(&self, place: &LinePlace<'_>, most: u32) -> Result<bool, OutOfMemory> {
         let count = visits(place.draft, place.node, place.line);
         if count < most {
             return Ok(false);
@@ -98,7 +102,7 @@ impl<'a> Programs<'a> {
     fn push_steps(
         &self,
         moves: &mut Vec<Move>,
-        place: &Place<'_>,
+        place: &LinePlace<'_>,
         most: u32,
     ) -> Result<(), OutOfMemory> {
         let aim = Aim::Run(most);
@@ -115,7 +119,7 @@ impl<'a> Programs<'a> {
     fn second_stage(
         &self,
         offered: &mut Stage,
-        place: &Place<'_>,
+        place: &LinePlace<'_>,
         most: u32,
     ) -> Result<(), OutOfMemory> {
         offered.is_last = true;
@@ -137,7 +141,7 @@ impl<'a> Programs<'a> {
     fn general_stage(
         &mut self,
         offered: &mut Stage,
-        place: &Place<'_>,
+        place: &LinePlace<'_>,
         most: u32,
         changes: u32,
     ) -> Result<(), OutOfMemory> {

@@ -2,7 +2,7 @@
 use crate::forced::forced_rule;
 use crate::heads::is_head;
 use crate::runs::push_steps;
-use cyc_memory::OutOfMemory;
+use cyc_basics::memory::OutOfMemory;
 use heap_formula::{Heap, Judgement, Rule, Subst, Term, apply_to_heap, bound_of_heap};
 use seek_engine::{Aim, Move, Setting};
 use std::alloc::Global;
@@ -11,7 +11,7 @@ use std::alloc::Global;
 const MOST_STEPS: u32 = 400;
 
 /// How many states are wanted.
-const MOST_STATES: usize = 6;
+const MOST_WITNESS_STATES: usize = 6;
 
 /// The most lines on one way.
 const MOST_LINES: usize = 60;
@@ -94,7 +94,8 @@ impl Run<'_> {
         ran
     }
 
-    /// Goes on from the point; where the run has come to the head again, its state being settled, the state is kept, once.
+    /// Goes on from the point; where the run has come to the head again, its state being settled, the state is kept,
+    /// once.
     fn visit(&mut self, point: &Point) -> Result<(), OutOfMemory> {
         self.path.truncate(point.depth);
         let Judgement::Term(line, state) = &point.judgement else {
@@ -121,7 +122,7 @@ impl Run<'_> {
     /// Goes on from the latest point, as long as there is one and states are wanted.
     fn go(&mut self) -> Result<(), OutOfMemory> {
         for _ in 0..MOST_STEPS {
-            if self.found.len() >= MOST_STATES {
+            if self.found.len() >= MOST_WITNESS_STATES {
                 return Ok(());
             }
             let Some(point) = self.points.pop() else {
@@ -174,8 +175,8 @@ fn lift(alloc: Global, heap: &Heap, variables: u16, is_back: bool) -> Result<Sub
     Ok(Subst::from_vec(pairs))
 }
 
-/// Finds the states of a run from the state with its logic variables lifted. The run leaves out the lines below the head; where
-/// it finds nothing, there is one that does not.
+/// Finds the states of a run from the state with its logic variables lifted. The run leaves out the lines below the
+/// head; where it finds nothing, there is one that does not.
 fn push_far_states(
     found: &mut Vec<Heap>,
     setting: &Setting<'_>,
@@ -208,8 +209,8 @@ fn lower(
     Ok(())
 }
 
-/// Finds the states in which a run from the state comes to the line again, by the first Unfold only; those with the most
-/// atoms first. Lines below the head are left out at first.
+/// Finds the states in which a run from the state comes to the line again, by the first Unfold only; those with the
+/// most atoms first. Lines below the head are left out at first.
 pub fn push_witnesses(
     found: &mut Vec<Heap>,
     setting: &Setting<'_>,

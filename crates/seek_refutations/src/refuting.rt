@@ -1,7 +1,7 @@
 // The moves of a refutation.
 use crate::maps::has_few_maps;
 use crate::unfolds::{Unfolding, ordered_unfoldings};
-use cyc_memory::OutOfMemory;
+use cyc_basics::memory::OutOfMemory;
 use heap_formula::{Heap, Judgement, Positions, Pure, Rule, Spatial, Term};
 use rule_table::{antecedent, has_pure};
 use seek_engine::{
@@ -164,8 +164,8 @@ impl Refutations<'_> {
         one_rule(self.setting.alloc, Rule::Unfold(place), Aim::Entail(fuel))
     }
 
-    /// The first atom to be unfolded without a choice that matters: no case is left, or the predicate is not recursive and at
-    /// most so many cases are left.
+    /// The first atom to be unfolded without a choice that matters: no case is left, or the predicate is not recursive
+    /// and at most so many cases are left.
     fn plain(&self, unfoldings: &[Unfolding], most: usize) -> Option<u32> {
         for unfolding in unfoldings {
             if unfolding.cases == 0 {

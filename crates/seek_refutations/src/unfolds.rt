@@ -1,12 +1,12 @@
 // The order in which atoms are unfolded.
-use cyc_memory::OutOfMemory;
+use cyc_basics::memory::OutOfMemory;
 use heap_formula::{Heap, Spatial};
 use pred_defs::Defs;
 use seek_shapes::{number_of, survivors};
 use std::alloc::Global;
 
-/// A predicate atom: whether its predicate leads back to itself, and a case with spatial atoms is left; how many cases are left; and
-/// its place. The less the sooner it is unfolded.
+/// A predicate atom: whether its predicate leads back to itself, and a case with spatial atoms is left; how many cases
+/// are left; and its place. The less the sooner it is unfolded.
 #[derive(Clone, Copy)]
 pub struct Unfolding {
     pub is_recursive: bool,

@@ -1,6 +1,6 @@
 // Terms of spatial atoms.
 use crate::heaps::number_of;
-use cyc_memory::OutOfMemory;
+use cyc_basics::memory::OutOfMemory;
 use heap_formula::{Args, Heap, Pure, Spatial, Term};
 use std::alloc::Global;
 

@@ -1,5 +1,5 @@
 // Which terms equations make equal.
-use cyc_memory::OutOfMemory;
+use cyc_basics::memory::OutOfMemory;
 use heap_formula::{Pure, Term};
 use std::alloc::Global;
 

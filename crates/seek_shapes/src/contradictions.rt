@@ -1,7 +1,7 @@
 // Cases that an antecedent rules out.
 use crate::classes::Classes;
 use crate::heaps::{body_of, number_of};
-use cyc_memory::OutOfMemory;
+use cyc_basics::memory::OutOfMemory;
 use heap_formula::{Args, Heap, Pure, Spatial, Term};
 use pred_defs::Defs;
 use std::alloc::Global;
@@ -42,8 +42,8 @@ fn meets(
     Ok(false)
 }
 
-/// Whether the two heaps together are contradictory as soon as their equations are used: a disequation of equal terms, a cell
-/// at `nil`, or two cells at one address.
+/// Whether the two heaps together are contradictory as soon as their equations are used: a disequation of equal terms,
+/// a cell at `nil`, or two cells at one address.
 pub fn clashes(alloc: Global, heap: &Heap, body: &Heap) -> Result<bool, OutOfMemory> {
     let mut classes = Classes::new(alloc);
     classes.join_all(heap.pure())?;

@@ -2,14 +2,14 @@
 use crate::far::push_all_far;
 use crate::heaps::{differ, number_of, value_in};
 use crate::roots::{Base, Shape, root_of};
-use cyc_memory::OutOfMemory;
+use cyc_basics::memory::OutOfMemory;
 use heap_formula::{Heap, Spatial, Term};
 use pred_defs::Defs;
 use std::alloc::Global;
 
-/// An address of an atom: the term at which it has a cell unless it is empty, and the term that equals it then. Without an
-/// end the atom is never empty. So a list segment is an edge from its root to its end (after Cook, Haase, Ouaknine, Parkinson
-/// and Worrell 2011).
+/// An address of an atom: the term at which it has a cell unless it is empty, and the term that equals it then. Without
+/// an end the atom is never empty. So a list segment is an edge from its root to its end (after Cook, Haase, Ouaknine,
+/// Parkinson and Worrell 2011).
 #[derive(Clone, Copy)]
 pub struct Edge {
     pub root: Term,

@@ -1,7 +1,7 @@
 // Atoms that show that a term is the address of a cell.
 use crate::edges::{PlacedEdge, Shapes};
 use crate::heaps::{differ, number_of};
-use cyc_memory::OutOfMemory;
+use cyc_basics::memory::OutOfMemory;
 use heap_formula::{Heap, Pure, Spatial, Term};
 use std::alloc::Global;
 
@@ -158,9 +158,9 @@ impl Walks<'_> {
 }
 
 impl Shapes<'_> {
-    /// Atoms beside the avoided ones that show that a term is the address of a cell: a path from it of which some vertex and
-    /// the last one differ, or whose last atom is never empty. With `or_nil` a path to `nil` will do, which shows that the
-    /// term is `nil` or an address.
+    /// Atoms beside the avoided ones that show that a term is the address of a cell: a path from it of which some
+    /// vertex and the last one differ, or whose last atom is never empty. With `or_nil` a path to `nil` will do, which
+    /// shows that the term is `nil` or an address.
     pub fn allocated(
         &self,
         heap: &Heap,
@@ -230,8 +230,9 @@ impl Shapes<'_> {
         Ok(best)
     }
 
-    /// Atoms that show that two terms differ: one is the address of a cell and the other `nil`; or the atom's end is not one
-    /// of its addresses; or both are addresses, or one and the other that or `nil`, by atoms without a common one.
+    /// Atoms that show that two terms differ: one is the address of a cell and the other `nil`; or the atom's end is
+    /// not one of its addresses; or both are addresses, or one and the other that or `nil`, by atoms without a common
+    /// one.
     pub fn apart(&self, heap: &Heap, t: Term, u: Term) -> Result<Option<Vec<u32>>, OutOfMemory> {
         let edges = self.placed_edges(heap.spatial())?;
         if u == Term::Nil {

@@ -3,7 +3,7 @@ use crate::atoms::arguments;
 use crate::classes::Classes;
 use crate::heaps::body_of;
 use crate::roots::{Far, Shape, equal_term};
-use cyc_memory::OutOfMemory;
+use cyc_basics::memory::OutOfMemory;
 use heap_formula::{Args, Heap, Spatial, Term};
 use pred_defs::Defs;
 use std::alloc::Global;
@@ -88,8 +88,8 @@ impl Candidates<'_> {
         false
     }
 
-    /// Whether a predicate atom of a case makes the term an address: it is one of the atom's, and where the atom is empty it
-    /// is that of a cell of the case.
+    /// Whether a predicate atom of a case makes the term an address: it is one of the atom's, and where the atom is
+    /// empty it is that of a cell of the case.
     fn is_covered(
         &self,
         case: &Heap,

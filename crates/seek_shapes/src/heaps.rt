@@ -1,6 +1,6 @@
 // Small words about heaps.
-use cyc_limits::{MOST_PURE, MOST_SPATIAL};
-use cyc_memory::OutOfMemory;
+use cyc_basics::limits::{MOST_PURE, MOST_SPATIAL};
+use cyc_basics::memory::OutOfMemory;
 use heap_formula::{Args, Heap, Pure, Spatial, Term};
 use rule_table::{Change, changed_heap, has_pure};
 use std::alloc::Global;

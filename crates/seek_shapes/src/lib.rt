@@ -1,6 +1,6 @@
-//! What definitions say of the shapes that their atoms describe, and what an antecedent says with them: at which term an atom
-//! has a cell unless it is empty, to which term it leads, and which atoms show that another is empty or that two terms differ.
-//! No predicate is known by its name.
+//! What definitions say of the shapes that their atoms describe, and what an antecedent says with them: at which term
+//! an atom has a cell unless it is empty, to which term it leads, and which atoms show that another is empty or that
+//! two terms differ. No predicate is known by its name.
 #![tactic(auto)]
 
 mod atoms;
@@ -19,7 +19,7 @@ pub use atoms::{
     shared_terms, shares_variable, terms_of, unifies,
 };
 pub use contradictions::{Forced, clashes, forced_atom, survivors};
-pub use cyc_memory::OutOfMemory;
+pub use cyc_basics::memory::OutOfMemory;
 pub use edges::{Edge, PlacedEdge, Shapes};
 pub use evidence::{Emptied, Evidence};
 pub use heaps::{

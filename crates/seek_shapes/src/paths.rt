@@ -1,14 +1,14 @@
 // Two paths from one term to another.
 use crate::edges::{PlacedEdge, Shapes};
-use cyc_memory::OutOfMemory;
+use cyc_basics::memory::OutOfMemory;
 use heap_formula::{Heap, Term};
 use std::alloc::Global;
 
 /// The greatest number of ends that are followed from one edge.
 const MOST_ENDS: usize = 64;
 
-/// Two terms between which two paths lead that share no atom, and the atoms of both. One of the paths is empty then, so the
-/// terms are equal.
+/// Two terms between which two paths lead that share no atom, and the atoms of both. One of the paths is empty then, so
+/// the terms are equal.
 #[derive(Drop)]
 pub struct TwoPaths {
     pub from: Term,

@@ -10,16 +10,16 @@ pub struct Base {
     pub end: Term,
 }
 
-/// A parameter that is the address of a cell where the atom is not empty, and what it equals where it is; without an end the
-/// atom is never empty.
+/// A parameter that is the address of a cell where the atom is not empty, and what it equals where it is; without an
+/// end the atom is never empty.
 #[derive(Clone, Copy)]
 pub struct Far {
     pub place: usize,
     pub end: Option<Term>,
 }
 
-/// What the cases of a predicate say of its addresses: the root, at which each case with spatial atoms has a cell; the empty
-/// case, if there is one; and further addresses, as the last cell of a doubly linked segment.
+/// What the cases of a predicate say of its addresses: the root, at which each case with spatial atoms has a cell; the
+/// empty case, if there is one; and further addresses, as the last cell of a doubly linked segment.
 #[derive(Drop)]
 pub struct Shape {
     pub root: usize,

@@ -2,7 +2,7 @@
 use crate::edges::Shapes;
 use crate::heaps::{body_of, is_false_equation, value_in};
 use crate::roots::Shape;
-use cyc_memory::OutOfMemory;
+use cyc_basics::memory::OutOfMemory;
 use heap_formula::{Heap, Pure, Spatial, Term};
 
 /// A parameter, and the one at which what it stands for goes on behind the atom.
@@ -140,9 +140,9 @@ impl Shapes<'_> {
         Ok(outs)
     }
 
-    /// Which parameter goes on as which behind an atom: those that are equal where it is empty, the one that stays in the
-    /// recursion being the second; or, where it never is, the root and the first that stays, and the one that moves and the
-    /// further address.
+    /// Which parameter goes on as which behind an atom: those that are equal where it is empty, the one that stays in
+    /// the recursion being the second; or, where it never is, the root and the first that stays, and the one that moves
+    /// and the further address.
     pub fn outs(&self, predicate: u16) -> Result<Vec<Out>, OutOfMemory> {
         let Some(shape) = self.shape(predicate) else {
             return Ok(Vec::new(self.alloc));

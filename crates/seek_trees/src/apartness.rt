@@ -21,8 +21,8 @@ impl Work<'_> {
         Ok(rest)
     }
 
-    /// The node at which the antecedent says that two terms differ, by cells or by atoms that show it; if there are none, the
-    /// tree is as before.
+    /// The node at which the antecedent says that two terms differ, by cells or by atoms that show it; if there are
+    /// none, the tree is as before.
     pub fn apart_by_atoms(&mut self, node: u32, t: Term, u: Term) -> Result<Option<u32>, Stop> {
         if t == u || differ(self.left(node), t, u) {
             return Ok(if t == u { None } else { Some(node) });

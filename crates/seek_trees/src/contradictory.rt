@@ -7,8 +7,8 @@ use seek_shapes::{Edge, number_of};
 /// The most goals of one refutation.
 const MOST_GOALS: u32 = 400;
 
-/// What may be done at a contradictory antecedent: the first two branch, the last shows that the first atom has a further
-/// address that is `nil` or another atom's.
+/// What may be done at a contradictory antecedent: the first two branch, the last shows that the first atom has a
+/// further address that is `nil` or another atom's.
 #[derive(Drop)]
 enum Branch {
     Unfold(u32),
@@ -179,8 +179,8 @@ impl Work<'_> {
         Err(Stop::NoWay)
     }
 
-    /// Closes a goal whose antecedent is contradictory: by branches at atoms that share an address, the one with a cell first,
-    /// since it fails more often.
+    /// Closes a goal whose antecedent is contradictory: by branches at atoms that share an address, the one with a cell
+    /// first, since it fails more often.
     pub fn refute(&mut self, node: u32) -> Result<(), Stop> {
         let mut goals = vec![in self.setting.alloc; node]?;
         for _ in 0..MOST_GOALS {

@@ -14,8 +14,8 @@ const BY_TACTIC: Effort = Effort {
     is_part: false,
 };
 
-/// Atoms with variables in place of all terms that do not matter, the disequations that they need, and the terms that stood
-/// in place of the variables.
+/// Atoms with variables in place of all terms that do not matter, the disequations that they need, and the terms that
+/// stood in place of the variables.
 #[derive(Drop)]
 struct General {
     pure: Vec<Pure>,
@@ -149,8 +149,8 @@ impl Work<'_> {
         Ok(general)
     }
 
-    /// Closes a node by the lemma that the first of the atoms, whose further address is this term, and the second, if there is
-    /// one, whose address it is too, contradict each other.
+    /// Closes a node by the lemma that the first of the atoms, whose further address is this term, and the second, if
+    /// there is one, whose address it is too, contradict each other.
     pub fn close_by_far_end(&mut self, node: u32, places: &[u32], term: Term) -> Result<(), Stop> {
         let general = self.general(node, places, term)?;
         let formula = self.contradiction()?;

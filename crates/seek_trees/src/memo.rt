@@ -1,10 +1,11 @@
 // What is known of lemmas.
 use crate::tree::Tree;
-use cyc_memory::OutOfMemory;
+use cyc_basics::memory::OutOfMemory;
 use heap_formula::{Judgement, is_same_judgement};
 use std::alloc::Global;
 
-/// How hard a lemma is tried: by the tactic alone, also by the search with an explicit goal stack, and also as a goal by parts.
+/// How hard a lemma is tried: by the tactic alone, also by the search with an explicit goal stack, and also as a goal
+/// by parts.
 #[derive(Clone, Copy)]
 pub struct Effort {
     pub is_hard: bool,
@@ -18,10 +19,10 @@ pub struct Question {
     pub effort: Effort,
 }
 
-/// A judgement up to renaming, and the number of the lemma that says it, if it was proved. One that is being proved counts as
-/// one that was not, so that uses of lemmas make no circle.
+/// A judgement up to renaming, and the number of the lemma that says it, if it was proved. One that is being proved
+/// counts as one that was not, so that uses of lemmas make no circle.
 #[derive(Drop)]
-pub struct Known {
+pub struct KnownLemma {
     pub judgement: Judgement,
     pub lemma: Option<u32>,
 }
@@ -29,7 +30,7 @@ pub struct Known {
 /// The lemmas, what is known of others, and the question that is open.
 #[derive(Drop)]
 pub struct Memo {
-    pub known: Vec<Known>,
+    pub known: Vec<KnownLemma>,
     pub lemmas: Vec<Tree>,
     pub question: Option<Question>,
 }
@@ -58,7 +59,7 @@ impl Memo {
     pub fn note(&mut self, judgement: &Judgement) -> Result<usize, OutOfMemory> {
         let place = self.known.len();
         let judgement = judgement.clone()?;
-        self.known.push(Known {
+        self.known.push(KnownLemma {
             judgement,
             lemma: None,
         })?;

@@ -1,5 +1,5 @@
-// The normal form of an antecedent: no contradiction on sight, no equation, no disequation twice, and no atom of which only an
-// empty case is left.
+// The normal form of an antecedent: no contradiction on sight, no equation, no disequation twice, and no atom of which
+// only an empty case is left.
 use crate::stop::Stop;
 use crate::work::{Work, rank_in};
 use heap_formula::{Args, Heap, Pure, Rule, Spatial, Term};

@@ -1,11 +1,11 @@
 // Judgements up to the names of their variables.
-use cyc_memory::OutOfMemory;
+use cyc_basics::memory::OutOfMemory;
 use heap_formula::{Heap, Judgement, Subst, Term, apply};
 use seek_engine::terms_of;
 use std::alloc::Global;
 
-/// The universal variables of a judgement in the order in which they first stand there. The variable at place i is `$i` in the
-/// renamed judgement.
+/// The universal variables of a judgement in the order in which they first stand there. The variable at place i is `$i`
+/// in the renamed judgement.
 #[derive(Drop)]
 pub struct Renaming {
     pub names: Vec<u16>,

@@ -104,8 +104,9 @@ impl Work<'_> {
         Ok(rest)
     }
 
-    /// Brings the antecedent into normal form and adds what its paths show: an atom at an address of other atoms is empty, and
-    /// terms between which two paths lead are equal. The node that is open then, if the goal is not closed by it.
+    /// Brings the antecedent into normal form and adds what its paths show: an atom at an address of other atoms is
+    /// empty, and terms between which two paths lead are equal. The node that is open then, if the goal is not closed
+    /// by it.
     pub fn saturate(&mut self, node: u32) -> Result<Option<u32>, Stop> {
         let mut at = node;
         for _ in 0..MOST_FACTS {

@@ -8,8 +8,8 @@ use seek_shapes::{free_place, number_of};
 /// The most rules that take away what both sides have.
 const MOST_SHARED: u32 = 200;
 
-/// The rule that takes the first pure atom of the right side that follows, or else its first spatial atom that the left side
-/// has.
+/// The rule that takes the first pure atom of the right side that follows, or else its first spatial atom that the left
+/// side has.
 pub fn shared_rule(left: &Heap, right: &Heap) -> Option<Rule> {
     for (k, atom) in right.pure().iter().enumerate() {
         if is_universal_pure(*atom) && follows(left.pure(), *atom) {

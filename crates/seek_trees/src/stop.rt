@@ -1,9 +1,9 @@
 // Why a move does not go on.
-use cyc_memory::OutOfMemory;
+use cyc_basics::memory::OutOfMemory;
 use std::alloc::{AllocError, AllocFailed};
 
-/// Why a move does not go on: there is no way on, and the tree is as the caller finds it; a lemma is asked for, and the move is
-/// to be made again when the memo knows it; or out of memory.
+/// Why a move does not go on: there is no way on, and the tree is as the caller finds it; a lemma is asked for, and the
+/// move is to be made again when the memo knows it; or out of memory.
 #[derive(Clone, Copy)]
 pub enum Stop {
     NoWay,

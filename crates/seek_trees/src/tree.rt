@@ -1,5 +1,5 @@
 // The tree of a goal or of a lemma.
-use cyc_memory::OutOfMemory;
+use cyc_basics::memory::OutOfMemory;
 use heap_formula::Judgement;
 use seek_engine::Draft;
 use std::alloc::Global;

@@ -2,13 +2,14 @@
 use crate::memo::Memo;
 use crate::stop::Stop;
 use crate::tree::Tree;
-use cyc_memory::OutOfMemory;
+use cyc_basics::memory::OutOfMemory;
 use heap_formula::{Heap, Judgement, Positions, Premise, Rule, Spatial};
 use rule_table::antecedent;
 use seek_engine::{Setting, first_equation};
 use seek_shapes::Shapes;
 
-/// The tree that grows, what is known of lemmas, and how many steps were taken and may be. `nothing` is a heap without atoms.
+/// The tree that grows, what is known of lemmas, and how many steps were taken and may be. `nothing` is a heap without
+/// atoms.
 #[derive(Drop)]
 pub struct Work<'a> {
     pub setting: Setting<'a>,
@@ -164,8 +165,8 @@ impl Work<'_> {
         Ok(sorted)
     }
 
-    /// Cuts atoms out and a formula in: the node at which they are to entail it, and the node with it in their place, behind
-    /// the other atoms.
+    /// Cuts atoms out and a formula in: the node at which they are to entail it, and the node with it in their place,
+    /// behind the other atoms.
     pub fn cut(&mut self, node: u32, places: &[u32], formula: Heap) -> Result<(u32, u32), Stop> {
         let sorted = self.sorted(places)?;
         self.two(node, &Rule::Cut(Positions::from_vec(sorted), formula))
@@ -200,7 +201,7 @@ impl Work<'_> {
     /// Whether the Absurd closes a node.
     pub fn is_absurd(&self, node: u32) -> Result<bool, Stop> {
         match self.tree.draft.node(node) {
-            Some(goal) => Ok(self.setting.goes(&goal.judgement, &Rule::Absurd)?),
+            Some(goal) => Ok(self.setting.is_applicable(&goal.judgement, &Rule::Absurd)?),
             None => Ok(false),
         }
     }

@@ -1,5 +1,6 @@
 -- Two answers to one input are alike.
-use Rattle.std.proofs.Common.{◌≡◌, ◌∙◌, ◌⊎◌, ap, arith, ℕ, List, length, inl, inr, refl, subst, sym, Bool, true, false, Option, Some, None}
+use Rattle.std.proofs.Common.{◌≡◌, ◌∙◌, ◌⊎◌, ap, arith, ℕ, List, length, inl, inr, refl, subst, sym, Bool, true, false}
+use Rattle.std.proofs.Common.{Option, Some, None}
 use Rattle.std.specs.Prelude.{Result, Ok, Err}
 use Rattle.heap_formula.specs.declared.commands.Command.{Command}
 use Rattle.heap_formula.specs.declared.judgements.Judgement.{Judgement}
@@ -13,9 +14,9 @@ use Rattle.cyc_runs.specs.Runs.{IsAnswerOf, WroteAnswer}
 use Rattle.cyc_runs.proofs.Told.{told_is}
 use Rattle.formula_reader.specs.declared.problem.Problem.{Problem}
 use Rattle.formula_reader.specs.Reading as problems
-use Rattle.reading_facts.specs.Alike.{AreAlike}
-use Rattle.reading_facts.proofs.OneReading.{one_reading}
-use Rattle.reading_laws.proofs.Readings.{one_problem_reading}
+use Rattle.check_answers.specs.Alike.{AreAlike}
+use Rattle.check_answers.proofs.OneReading.{one_reading}
+use Rattle.command_answers.proofs.Readings.{one_problem_reading}
 use Rattle.run_file.specs.declared.file.RunFile.{RunFile}
 use Rattle.run_file.specs.Reading as runs
 use Rattle.run_file.proofs.Readings.{one_run}
@@ -27,7 +28,8 @@ use Rattle.solver.specs.Runs.{IsRight}
 use Rattle.solver.specs.Solutions.{Holds, IsSolution}
 use Rattle.solver.proofs.SameRuns.{same_right, turned_run}
 use Rattle.solve_top.specs.Inputs.{is_run_text}
-use Rattle.solve_top.specs.Answers.{EndAlike, IsAnswerTo, IsAnswerWith, IsProblemAnswer, IsRerun, IsRunAnswer, IsSaid, IsSolved, has_answered}
+use Rattle.solve_top.specs.Answers.{EndAlike, IsAnswerTo, IsAnswerWith, IsProblemAnswer, IsRerun, IsRunAnswer, IsSaid}
+use Rattle.solve_top.specs.Answers.{IsSolved, has_answered}
 
 -- ---- yes, no, or that nothing is known
 
@@ -55,16 +57,24 @@ same_holds p q same h =
     (subst (λ (goal : Judgement). JudgementHolds p.defs.list p.program goal) same.goal h))
 
 turned : (p q : Problem) → problems.AreSame p q → problems.AreSame q p
-turned p q same = record { version = sym same.version; most = sym same.most; definitions = sym same.definitions; program = sym same.program; goal = sym same.goal }
+turned p q same = record {
+  version = sym same.version;
+  most = sym same.most;
+  definitions = sym same.definitions;
+  program = sym same.program;
+  goal = sym same.goal;
+}
 
-solution_says : (p : Problem) (found : Solution) (s : Status) (text : List ℕ) → IsSolution p found → IsSaid found s text → Says (Holds p) s
+solution_says : (p : Problem) (found : Solution) (s : Status) (text : List ℕ) → IsSolution p found → IsSaid found s text
+    → Says (Holds p) s
 solution_says p (Proved found) s text proof said = inl (proof.holds, said.0)
 solution_says p Impossible s text impossible said = inl (impossible.holds, said.0)
 solution_says p (Refuted (CounterModel m)) s text counter said = inr (inl (counter.fails, said.0))
 solution_says p (Refuted (FaultyRun r)) s text faulty said = inr (inl (faulty.fails, said.0))
 solution_says p (Unknown stuck) s text none said = inr (inr said.0)
 
-problems_alike : (r q : Result Problem ReadFault) (s t : Status) (xs ys : List ℕ) → AreAlike problems.AreSame r q → IsProblemAnswer r s xs → IsProblemAnswer q t ys → EndAlike s t
+problems_alike : (r q : Result Problem ReadFault) (s t : Status) (xs ys : List ℕ) → AreAlike problems.AreSame r q
+    → IsProblemAnswer r s xs → IsProblemAnswer q t ys → EndAlike s t
 problems_alike (Ok p) (Ok q) s t xs ys same first second =
     says_alike (Holds p) (Holds q) s t (same_holds p q same) (same_holds q p (turned p q same))
     (solution_says p first.0 s xs first.1 first.2) (solution_says q second.0 t ys second.1 second.2)
@@ -74,9 +84,11 @@ problems_alike (Err a) (Ok q) s t xs ys same first second = absurd same
 
 -- ---- runs
 
-runs_alike : (r q : Result RunFile ReadFault) (s t : Status) (xs ys : List ℕ) → AreAlike runs.AreSame r q → IsRunAnswer r s xs → IsRunAnswer q t ys → EndAlike s t
+runs_alike : (r q : Result RunFile ReadFault) (s t : Status) (xs ys : List ℕ) → AreAlike runs.AreSame r q
+    → IsRunAnswer r s xs → IsRunAnswer q t ys → EndAlike s t
 runs_alike (Ok r) (Ok q) s t xs ys same first second =
-    says_alike (IsRight r) (IsRight q) s t (same_right r q same) (same_right q r (turned_run r q same)) (rerun_says r s xs first) (rerun_says q t ys second)
+    says_alike (IsRight r) (IsRight q) s t (same_right r q same) (same_right q r (turned_run r q same))
+    (rerun_says r s xs first) (rerun_says q t ys second)
   where
     rerun_says : (r : RunFile) (s : Status) (text : List ℕ) → IsRerun r s text → Says (IsRight r) s
     rerun_says r s text (inl right) = inl (right.0, right.1)
@@ -88,24 +100,32 @@ runs_alike (Err a) (Ok q) s t xs ys same first second = absurd same
 
 -- ---- inputs
 
-kinds_alike : (b : Bool) (input : List ℕ) (s t : Status) (xs ys : List ℕ) → IsAnswerTo b input s xs → IsAnswerTo b input t ys → EndAlike s t
+kinds_alike : (b : Bool) (input : List ℕ) (s t : Status) (xs ys : List ℕ) → IsAnswerTo b input s xs
+    → IsAnswerTo b input t ys → EndAlike s t
 kinds_alike true input s t xs ys first second =
-    runs_alike first.0 second.0 s t xs ys (one_reading runs.run_files run-law runs.AreSame one_run input first.0 second.0 first.1 second.1) first.2 second.2
+    runs_alike first.0 second.0 s t xs ys
+    (one_reading runs.run_files run-law runs.AreSame one_run input first.0 second.0 first.1 second.1)
+    first.2 second.2
 kinds_alike false input s t xs ys first second =
-    problems_alike first.0 second.0 s t xs ys (one_problem_reading input first.0 second.0 first.1 second.1) first.2 second.2
+    problems_alike first.0 second.0 s t xs ys (one_problem_reading input first.0 second.0 first.1 second.1)
+    first.2 second.2
 
-answers_alike : (input : List ℕ) (s t : Status) (xs ys : List ℕ) → IsAnswerOf IsSolved input s xs → IsAnswerOf IsSolved input t ys → EndAlike s t
+answers_alike : (input : List ℕ) (s t : Status) (xs ys : List ℕ) → IsAnswerOf IsSolved input s xs
+    → IsAnswerOf IsSolved input t ys → EndAlike s t
 answers_alike input s t xs ys (inl first) (inl second) = inl (first.1 ∙ sym second.1)
-answers_alike input s t xs ys (inr first) (inr second) = kinds_alike (is_run_text input) input s t xs ys first.1 second.1
+answers_alike input s t xs ys (inr first) (inr second) = kinds_alike (is_run_text input)
+    input s t xs ys first.1 second.1
 answers_alike input s t xs ys (inl first) (inr second) = absurd (omega (arith, first.0, second.0))
 answers_alike input s t xs ys (inr first) (inl second) = absurd (omega (arith, first.0, second.0))
 
 -- a run that answered what was told ended as the told input is answered
-pub solved_alike : (told old new : Option (List ℕ)) (input : List ℕ) (s t : Status) (ys : List ℕ) → told ≡ Some input → IsAnswerOf IsSolved input t ys → WroteAnswer (IsAnswerOf IsSolved) told old new s → EndAlike s t
+pub solved_alike : (told old new : Option (List ℕ)) (input : List ℕ) (s t : Status) (ys : List ℕ) → told ≡ Some input
+    → IsAnswerOf IsSolved input t ys → WroteAnswer (IsAnswerOf IsSolved) told old new s → EndAlike s t
 solved_alike told old new input s t ys e expected wrote =
     answers_alike input s t wrote.0 ys
     (subst (λ i. IsAnswerOf IsSolved i s wrote.0) (sym (told_is told input wrote.1.0 e wrote.1.1)) wrote.1.2) expected
 
 -- the usage is answered in one way
-pub usage_alike : (input : List ℕ) (s t : Status) (ys : List ℕ) → IsAnswerWith None input t ys → s ≡ status.Usage → EndAlike s t
+pub usage_alike : (input : List ℕ) (s t : Status) (ys : List ℕ) → IsAnswerWith None input t ys → s ≡ status.Usage
+    → EndAlike s t
 usage_alike input s t ys expected e = inl (e ∙ sym expected.0)

@@ -7,6 +7,8 @@ use Rattle.solver.specs.declared.solution.Solution.{Solution}
 use Rattle.solver.specs.Solutions.{IsSolution}
 use Rattle.solve_top.specs.Answers.{IsProblemAnswer, IsSaid}
 
-pub said_answer : {A E : Type 0} (status : A → Status) (text : A → List ℕ) (r : Result A E) (p : Problem) (found : Solution) → IsSolution p found → IfOk r (λ a. IsSaid found (status a) (text a)) → IfOk r (λ a. IsProblemAnswer (Ok p) (status a) (text a))
+pub said_answer : {A E : Type 0} (status : A → Status) (text : A → List ℕ) (r : Result A E) (p : Problem)
+    (found : Solution) → IsSolution p found → IfOk r (λ a. IsSaid found (status a) (text a))
+    → IfOk r (λ a. IsProblemAnswer (Ok p) (status a) (text a))
 said_answer status text (Ok a) p found is said = (found, is, said)
 said_answer status text (Err e) p found is said = tt

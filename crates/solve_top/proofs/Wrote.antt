@@ -15,41 +15,48 @@ use Rattle.model_file.specs.Reading as models
 use Rattle.model_file.proofs.Readings as model_readings
 use Rattle.proof_file.specs.declared.file.ProofFile.{ProofFile}
 use Rattle.proof_file.specs.Reading as files
-use Rattle.proof_text.proofs.Readings as proof_readings
+use Rattle.proof_file.proofs.TextReadings as proof_readings
 use Rattle.run_file.specs.declared.file.RunFile.{RunFile}
 use Rattle.run_file.specs.Reading as runs
 use Rattle.run_file.proofs.Readings as run_readings
-use Rattle.solve_notes.proofs.PassedOver.{notes-passed-over}
+use Rattle.solve_top.proofs.PassedOver.{notes-passed-over}
 use Rattle.solver.specs.declared.solution.Refutation.{Refutation}
 use Rattle.solver.specs.declared.solution.Refutation.TheVariants.{CounterModel, FaultyRun}
 use Rattle.solver.specs.declared.solution.Solution.{Solution}
 use Rattle.solver.specs.declared.solution.Solution.TheVariants.{Proved, Impossible, Refuted, Unknown}
 use Rattle.solver.specs.Solutions.{IsCheckedProof, IsCounterModel, IsFaultyRun, IsRefutation, IsSolution}
 use Rattle.solve_top.specs.Inputs.{is_run_text}
-use Rattle.solve_top.specs.Answers.{IsAnswerTo, IsCertified, IsProblemAnswer, IsRerun, IsRunAnswer, IsSaid, IsSolved, fails_line, holds_line, proof_text, run_text, text_of_refutation}
-use Rattle.solve_top.specs.Written.{GoalFails, GoalHolds, IsModelText, IsProofText, IsRunText, RunFails, RunHolds, WroteFails, WroteHolds}
+use Rattle.solve_top.specs.Answers.{IsAnswerTo, IsCertified, IsProblemAnswer, IsRerun, IsRunAnswer, IsSaid, IsSolved}
+use Rattle.solve_top.specs.Answers.{fails_line, holds_line, proof_text, run_text, text_of_refutation}
+use Rattle.solve_top.specs.Written.{GoalFails, GoalHolds, IsModelText, IsProofText, IsRunText, RunFails, RunHolds}
+use Rattle.solve_top.specs.Written.{WroteFails, WroteHolds}
 
 -- ---- certificates are read
 
-right_text : (p : Problem) (f : ProofFile) (text : List ℕ) → IsCheckedProof p f → IsCertified holds_line (proof_text f) text → IsProofText p text
+right_text : (p : Problem) (f : ProofFile) (text : List ℕ) → IsCheckedProof p f
+    → IsCertified holds_line (proof_text f) text → IsProofText p text
 right_text p f text proof said = record {
   file = f;
   proof = proof;
   certificate = said.notes ++ proof_text f;
   is = said.is;
-  is_file = notes-passed-over said.notes (proof_text f) said.are_notes files.proof_files f (proof_readings.text_is_read f);
+  is_file = notes-passed-over said.notes (proof_text f) said.are_notes files.proof_files f
+      (proof_readings.text_is_read f);
 }
 
-model_text : (p : Problem) (m : Model) (text : List ℕ) → IsCounterModel p m → IsCertified fails_line (text_of_model m.defs.list m.stack m.heap m.ask) text → IsModelText p text
+model_text : (p : Problem) (m : Model) (text : List ℕ) → IsCounterModel p m
+    → IsCertified fails_line (text_of_model m.defs.list m.stack m.heap m.ask) text → IsModelText p text
 model_text p m text counter said = record {
   model = m;
   counter = counter;
   certificate = said.notes ++ text_of_model m.defs.list m.stack m.heap m.ask;
   is = said.is;
-  is_file = notes-passed-over said.notes (text_of_model m.defs.list m.stack m.heap m.ask) said.are_notes models.model_files m (model_readings.text_is_read m);
+  is_file = notes-passed-over said.notes (text_of_model m.defs.list m.stack m.heap m.ask)
+      said.are_notes models.model_files m (model_readings.text_is_read m);
 }
 
-faulty_text : (p : Problem) (r : RunFile) (text : List ℕ) → IsFaultyRun p r → IsCertified fails_line (run_text r) text → IsRunText p text
+faulty_text : (p : Problem) (r : RunFile) (text : List ℕ) → IsFaultyRun p r → IsCertified fails_line (run_text r) text
+    → IsRunText p text
 faulty_text p r text faulty said = record {
   run = r;
   faulty = faulty;
@@ -60,68 +67,93 @@ faulty_text p r text faulty said = record {
 
 -- ---- success
 
-solution_holds : (input text : List ℕ) (p : Problem) (found : Solution) → problems.IsRead input (Ok p) → IsSolution p found → IsSaid found status.Success text → GoalHolds input text
-solution_holds input text p (Proved found) is proof said = record { problem = p; is_problem = is; holds = proof.holds; shown = inl (right_text p found.file text proof said.1) }
-solution_holds input text p Impossible is impossible said = record { problem = p; is_problem = is; holds = impossible.holds; shown = inr (impossible, said.1) }
-solution_holds input text p (Refuted refutation) is refuted said = absurd (let h : status.Success ≡ status.Refused = said.0 in cc)
-solution_holds input text p (Unknown stuck) is none said = absurd (let h : status.Success ≡ status.NotFound = said.0 in cc)
+solution_holds : (input text : List ℕ) (p : Problem) (found : Solution) → problems.IsRead input (Ok p)
+    → IsSolution p found → IsSaid found status.Success text → GoalHolds input text
+solution_holds input text p (Proved found) is proof said = record
+    { problem = p; is_problem = is; holds = proof.holds; shown = inl (right_text p found.file text proof said.1) }
+solution_holds input text p Impossible is impossible said = record
+    { problem = p; is_problem = is; holds = impossible.holds; shown = inr (impossible, said.1) }
+solution_holds input text p (Refuted refutation) is refuted said = absurd
+    (let h : status.Success ≡ status.Refused = said.0 in cc)
+solution_holds input text p (Unknown stuck) is none said = absurd
+    (let h : status.Success ≡ status.NotFound = said.0 in cc)
 
-problem_holds : (input text : List ℕ) (read : Result Problem ReadFault) → problems.IsRead input read → IsProblemAnswer read status.Success text → GoalHolds input text
+problem_holds : (input text : List ℕ) (read : Result Problem ReadFault) → problems.IsRead input read
+    → IsProblemAnswer read status.Success text → GoalHolds input text
 problem_holds input text (Ok p) is answer = solution_holds input text p answer.0 is answer.1 answer.2
 problem_holds input text (Err fault) is answer = absurd (fault_fails fault answer.ends)
 
-rerun_holds : (input text : List ℕ) (r : RunFile) → runs.IsRead input (Ok r) → IsRerun r status.Success text → RunHolds input
+rerun_holds : (input text : List ℕ) (r : RunFile) → runs.IsRead input (Ok r) → IsRerun r status.Success text
+    → RunHolds input
 rerun_holds input text r is (inl right) = record { run = r; is_run = is; right = right.0 }
 rerun_holds input text r is (inr (inl wrong)) = absurd (let h : status.Success ≡ status.Refused = wrong.1 in cc)
 rerun_holds input text r is (inr (inr unknown)) = absurd (let h : status.Success ≡ status.NotFound = unknown.0 in cc)
 
-run_holds : (input text : List ℕ) (read : Result RunFile ReadFault) → runs.IsRead input read → IsRunAnswer read status.Success text → RunHolds input
+run_holds : (input text : List ℕ) (read : Result RunFile ReadFault) → runs.IsRead input read
+    → IsRunAnswer read status.Success text → RunHolds input
 run_holds input text (Ok r) is answer = rerun_holds input text r is answer
 run_holds input text (Err fault) is answer = absurd (fault_fails fault answer.ends)
 
-either_holds : (b : Bool) (input text : List ℕ) → IsAnswerTo b input status.Success text → GoalHolds input text ⊎ RunHolds input
+either_holds : (b : Bool) (input text : List ℕ) → IsAnswerTo b input status.Success text
+    → GoalHolds input text ⊎ RunHolds input
 either_holds true input text answer = inr (run_holds input text answer.0 answer.1 answer.2)
 either_holds false input text answer = inl (problem_holds input text answer.0 answer.1 answer.2)
 
-input_holds : (input text : List ℕ) → IsAnswerOf IsSolved input status.Success text → GoalHolds input text ⊎ RunHolds input
+input_holds : (input text : List ℕ) → IsAnswerOf IsSolved input status.Success text
+    → GoalHolds input text ⊎ RunHolds input
 input_holds input text (inl long) = absurd (let h : status.Success ≡ status.Limit = long.1 in cc)
 input_holds input text (inr solved) = either_holds (is_run_text input) input text solved.1
 
-pub wrote_holds : (told old new : Option (List ℕ)) → WroteAnswer (IsAnswerOf IsSolved) told old new status.Success → WroteHolds told old new
+pub wrote_holds : (told old new : Option (List ℕ)) → WroteAnswer (IsAnswerOf IsSolved) told old new status.Success
+    → WroteHolds told old new
 wrote_holds told old new wrote = (wrote.1.0, wrote.0, wrote.1.1, wrote.2, input_holds wrote.1.0 wrote.0 wrote.1.2)
 
 -- ---- a refusal
 
-refutation_fails : (input text : List ℕ) (p : Problem) (refutation : Refutation) → problems.IsRead input (Ok p) → IsRefutation p refutation → IsCertified fails_line (text_of_refutation refutation) text → GoalFails input text
-refutation_fails input text p (CounterModel m) is counter said = record { problem = p; is_problem = is; fails = counter.fails; shown = inl (model_text p m text counter said) }
-refutation_fails input text p (FaultyRun r) is faulty said = record { problem = p; is_problem = is; fails = faulty.fails; shown = inr (faulty_text p r text faulty said) }
+refutation_fails : (input text : List ℕ) (p : Problem) (refutation : Refutation) → problems.IsRead input (Ok p)
+    → IsRefutation p refutation → IsCertified fails_line (text_of_refutation refutation) text → GoalFails input text
+refutation_fails input text p (CounterModel m) is counter said = record
+    { problem = p; is_problem = is; fails = counter.fails; shown = inl (model_text p m text counter said) }
+refutation_fails input text p (FaultyRun r) is faulty said = record
+    { problem = p; is_problem = is; fails = faulty.fails; shown = inr (faulty_text p r text faulty said) }
 
-solution_fails : (input text : List ℕ) (p : Problem) (found : Solution) → problems.IsRead input (Ok p) → IsSolution p found → IsSaid found status.Refused text → GoalFails input text
-solution_fails input text p (Proved found) is proof said = absurd (let h : status.Refused ≡ status.Success = said.0 in cc)
-solution_fails input text p Impossible is impossible said = absurd (let h : status.Refused ≡ status.Success = said.0 in cc)
-solution_fails input text p (Refuted refutation) is refuted said = refutation_fails input text p refutation is refuted said.1
-solution_fails input text p (Unknown stuck) is none said = absurd (let h : status.Refused ≡ status.NotFound = said.0 in cc)
+solution_fails : (input text : List ℕ) (p : Problem) (found : Solution) → problems.IsRead input (Ok p)
+    → IsSolution p found → IsSaid found status.Refused text → GoalFails input text
+solution_fails input text p (Proved found) is proof said = absurd
+    (let h : status.Refused ≡ status.Success = said.0 in cc)
+solution_fails input text p Impossible is impossible said = absurd
+    (let h : status.Refused ≡ status.Success = said.0 in cc)
+solution_fails input text p (Refuted refutation)
+    is refuted said = refutation_fails input text p refutation is refuted said.1
+solution_fails input text p (Unknown stuck) is none said = absurd
+    (let h : status.Refused ≡ status.NotFound = said.0 in cc)
 
-problem_fails : (input text : List ℕ) (read : Result Problem ReadFault) → problems.IsRead input read → IsProblemAnswer read status.Refused text → GoalFails input text
+problem_fails : (input text : List ℕ) (read : Result Problem ReadFault) → problems.IsRead input read
+    → IsProblemAnswer read status.Refused text → GoalFails input text
 problem_fails input text (Ok p) is answer = solution_fails input text p answer.0 is answer.1 answer.2
 problem_fails input text (Err fault) is answer = absurd (fault_is_no_refusal fault answer.ends)
 
-rerun_fails : (input text : List ℕ) (r : RunFile) → runs.IsRead input (Ok r) → IsRerun r status.Refused text → RunFails input
+rerun_fails : (input text : List ℕ) (r : RunFile) → runs.IsRead input (Ok r) → IsRerun r status.Refused text
+    → RunFails input
 rerun_fails input text r is (inl right) = absurd (let h : status.Refused ≡ status.Success = right.1 in cc)
 rerun_fails input text r is (inr (inl wrong)) = record { run = r; is_run = is; wrong = wrong.0 }
 rerun_fails input text r is (inr (inr unknown)) = absurd (let h : status.Refused ≡ status.NotFound = unknown.0 in cc)
 
-run_fails : (input text : List ℕ) (read : Result RunFile ReadFault) → runs.IsRead input read → IsRunAnswer read status.Refused text → RunFails input
+run_fails : (input text : List ℕ) (read : Result RunFile ReadFault) → runs.IsRead input read
+    → IsRunAnswer read status.Refused text → RunFails input
 run_fails input text (Ok r) is answer = rerun_fails input text r is answer
 run_fails input text (Err fault) is answer = absurd (fault_is_no_refusal fault answer.ends)
 
-either_fails : (b : Bool) (input text : List ℕ) → IsAnswerTo b input status.Refused text → GoalFails input text ⊎ RunFails input
+either_fails : (b : Bool) (input text : List ℕ) → IsAnswerTo b input status.Refused text
+    → GoalFails input text ⊎ RunFails input
 either_fails true input text answer = inr (run_fails input text answer.0 answer.1 answer.2)
 either_fails false input text answer = inl (problem_fails input text answer.0 answer.1 answer.2)
 
-input_fails : (input text : List ℕ) → IsAnswerOf IsSolved input status.Refused text → GoalFails input text ⊎ RunFails input
+input_fails : (input text : List ℕ) → IsAnswerOf IsSolved input status.Refused text
+    → GoalFails input text ⊎ RunFails input
 input_fails input text (inl long) = absurd (let h : status.Refused ≡ status.Limit = long.1 in cc)
 input_fails input text (inr solved) = either_fails (is_run_text input) input text solved.1
 
-pub wrote_fails : (told old new : Option (List ℕ)) → WroteAnswer (IsAnswerOf IsSolved) told old new status.Refused → WroteFails told old new
+pub wrote_fails : (told old new : Option (List ℕ)) → WroteAnswer (IsAnswerOf IsSolved) told old new status.Refused
+    → WroteFails told old new
 wrote_fails told old new wrote = (wrote.1.0, wrote.0, wrote.1.1, wrote.2, input_fails wrote.1.0 wrote.0 wrote.1.2)

@@ -1,5 +1,6 @@
 -- The answer to a problem, to a run and to words.
-use Rattle.std.specs.Prelude.{◌≡◌, ◌≢◌, ◌≤◌, ◌⊎◌, ℕ, Bool, true, false, List, [], ◌++◌, length, codes, Option, Some, None, Result, Ok, Err}
+use Rattle.std.specs.Prelude.{◌≡◌, ◌≢◌, ◌≤◌, ◌⊎◌, ℕ, Bool, true, false, List, [], ◌++◌, length, codes, Option, Some}
+use Rattle.std.specs.Prelude.{None, Result, Ok, Err}
 use Rattle.cyc_lex.specs.declared.fault.ReadFault.{ReadFault}
 use Rattle.cyc_lex.specs.declared.fault.ReadFault.TheVariants as faults
 use Rattle.cyc_runs.specs.declared.endings.Status.{Status}
@@ -14,7 +15,7 @@ use Rattle.proof_file.specs.Written.{text_of_file}
 use Rattle.run_file.specs.declared.file.RunFile.{RunFile}
 use Rattle.run_file.specs.Reading as runs
 use Rattle.run_file.specs.Written.{text_of_run}
-use Rattle.solve_notes.specs.Notes.{AreNotes}
+use Rattle.solve_top.specs.Notes.{AreNotes}
 use Rattle.solver.specs.declared.solution.Refutation.{Refutation}
 use Rattle.solver.specs.declared.solution.Refutation.TheVariants.{CounterModel, FaultyRun}
 use Rattle.solver.specs.declared.solution.Solution.{Solution}
@@ -65,7 +66,8 @@ text_of_refutation (FaultyRun r) = run_text r
 abbrev pub IsSaid : Solution → Status → List ℕ → Type 0
 IsSaid (Proved found) ending text = (ending ≡ status.Success) × IsCertified holds_line (proof_text found.file) text
 IsSaid Impossible ending text = (ending ≡ status.Success) × IsCertified impossible_line [] text
-IsSaid (Refuted refutation) ending text = (ending ≡ status.Refused) × IsCertified fails_line (text_of_refutation refutation) text
+IsSaid (Refuted refutation) ending text = (ending ≡ status.Refused)
+    × IsCertified fails_line (text_of_refutation refutation) text
 IsSaid (Unknown stuck) ending text = (ending ≡ status.NotFound) × IsCertified unknown_line [] text
 
 -- an input with this fault is answered by the line of the fault, and by what explains it
@@ -84,7 +86,9 @@ IsProblemAnswer (Err fault) ending text = IsExplained fault ending text
 -- whether the run is as its file tells; that is not known where too many choices would have to be tried
 abbrev pub IsRerun : RunFile → Status → List ℕ → Type 0
 IsRerun r ending text =
-    (IsRight r × (ending ≡ status.Success) × (text ≡ holds_line)) ⊎ (((¬ IsRight r) × (ending ≡ status.Refused) × (text ≡ fails_line)) ⊎ ((ending ≡ status.NotFound) × (text ≡ unknown_line)))
+    (IsRight r × (ending ≡ status.Success) × (text ≡ holds_line))
+    ⊎ (((¬ IsRight r) × (ending ≡ status.Refused) × (text ≡ fails_line))
+    ⊎ ((ending ≡ status.NotFound) × (text ≡ unknown_line)))
 
 abbrev pub IsRunAnswer : Result RunFile ReadFault → Status → List ℕ → Type 0
 IsRunAnswer (Ok r) ending text = IsRerun r ending text

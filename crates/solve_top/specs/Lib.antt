@@ -1,3 +1,5 @@
+pub mod Notes
+pub mod Lines
 pub mod Words
 pub mod Inputs
 pub mod Answers

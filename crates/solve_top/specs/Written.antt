@@ -26,7 +26,8 @@ pub record IsProofText (problem : Problem) (text : List ℕ) : Type 0 where
 abbrev pub IsImpossibleText : Problem → List ℕ → Type 0
 IsImpossibleText problem text = IsImpossible problem × IsCertified impossible_line [] text
 
--- after the first line the text spells a model file, whose stack and heap satisfy the antecedent, and none of the disjuncts
+-- after the first line the text spells a model file, whose stack and heap satisfy the antecedent, and none of the
+-- disjuncts
 pub record IsModelText (problem : Problem) (text : List ℕ) : Type 0 where
   pub model : Model
   pub counter : IsCounterModel problem model

@@ -7,7 +7,7 @@ ghost use Rattle.solve_top.specs.Answers.{IsAnswerTo, IsProblemAnswer};
 use crate::answers::{answer_to_run, answer_to_solution, answer_to_text};
 use crate::inputs::is_run_text;
 use crate::notes::notes_on;
-use cyc_memory::OutOfMemory;
+use cyc_basics::memory::OutOfMemory;
 use cyc_runs::{Answer, Tool};
 use formula_reader::{Problem, read_problem};
 use run_file::read_run;

@@ -4,14 +4,14 @@ ghost use Rattle.cyc_runs.specs.Endings.{is_answer};
 ghost use Rattle.solver.specs.Runs.{IsRight};
 ghost use Rattle.solve_top.specs.Answers.{IsCertified, IsExplained, IsRerun, IsSaid, text_of_refutation};
 
+use crate::explanations::{Notes, explained};
+use cyc_basics::memory::OutOfMemory;
 use cyc_lex::ReadFault;
-use cyc_memory::OutOfMemory;
 use cyc_runs::{Answer, Status, answer_to_fault, fixed_answer};
 use general_models::CheckFault;
 use model_file::write_model;
-use proof_text::write_file;
+use proof_file::texts::write_file;
 use run_file::{RunFile, write_run};
-use solve_notes::{Notes, explained};
 use solver::{Refutation, Solution, is_right};
 use std::alloc::Global;
 

@@ -2,10 +2,11 @@
 ghost use Rattle.std.specs.Prelude.{◌≡◌, ◌≤◌, length, map, IfOk};
 ghost use Rattle.cyc_lex.specs.Placed.{placed};
 ghost use Rattle.cyc_runs.specs.Runs.{input_limit};
-ghost use Rattle.solve_top.specs.Inputs.{are_of_run as are_tokens_of_run, is_run_text as is_of_run, is_run_word as is_word_run};
+ghost use Rattle.solve_top.specs.Inputs.{are_of_run as are_tokens_of_run, is_run_text as is_of_run};
+ghost use Rattle.solve_top.specs.Inputs.{is_run_word as is_word_run};
 
+use cyc_basics::memory::OutOfMemory;
 use cyc_lex::{Kind, LexFault, Token, tokens};
-use cyc_memory::OutOfMemory;
 use std::alloc::Global;
 
 fn is_run_word(token: Token<'_>) -> bool

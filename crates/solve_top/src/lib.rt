@@ -1,5 +1,6 @@
-//! The top call of `solve`: words and a source of bytes in, one word, a certificate and a status out. Does a problem's goal hold?
-//! The answer is a proof, a counter-model, or a run that shows that the program does not halt; or that nothing is known.
+//! The top call of `solve`: words and a source of bytes in, one word, a certificate and a status out. Does a problem's
+//! goal hold? The answer is a proof, a counter-model, or a run that shows that the program does not halt; or that
+//! nothing is known.
 #![tactic(auto)]
 
 ghost use Rattle.std.specs.Prelude.{◌≡◌, ◌+◌, ◌≤◌, ◌⊎◌, ℕ, List, Some, None, IsSome, map, string_bytes, true};
@@ -13,6 +14,7 @@ ghost use Rattle.solve_top.specs.Written.{WroteHolds, WroteFails};
 
 mod answering;
 mod answers;
+pub mod explanations;
 mod inputs;
 mod notes;
 mod program;
@@ -29,8 +31,9 @@ use words::effort_of;
 /// The line for words that have no meaning.
 const USAGE: &str = "usage: solve [--effort N]\n";
 
-/// Answers the problem or the run that the source holds, with the effort that the words ask for. The first line has one word, or
-/// says why the input cannot be read; notes and a certificate follow. The whole text is made before its first byte is written.
+/// Answers the problem or the run that the source holds, with the effort that the words ask for. The first line has one
+/// word, or says why the input cannot be read; notes and a certificate follow. The whole text is made before its first
+/// byte is written.
 pub fn run<S: Source, K: Sink>(alloc: Global, words: &[String], src: &mut S, out: &mut K) -> Status
     // The text of the answer to the words and to the bytes that the source told was written, whole.
     ensures answered { is_answer result ≡ true → WroteAnswer (IsAnswer (map string_bytes words.now))
@@ -58,7 +61,7 @@ pub fn run<S: Source, K: Sink>(alloc: Global, words: &[String], src: &mut S, out
     // Neither a failed read nor a failed write ends so.
     ensures memory { result ≡ Status.OutOfMemory → (out.new ≡ out.old) × (S.faults src.new ≡ S.faults src.old) }
     // After a failed read or write no answer is given.
-    ensures calm { is_answer result ≡ true
+    ensures no_faults { is_answer result ≡ true
         → (S.faults src.new ≡ S.faults src.old) × (K.faults out.new ≡ K.faults out.old) }
     ensures counted { (S.faults src.old ≤ S.faults src.new) × (K.faults out.old ≤ K.faults out.new) }
     // Words without a meaning leave the source as it was.

@@ -2,19 +2,19 @@
 ghost use Rattle.std.specs.Prelude.{◌≤◌, length};
 ghost use Rattle.cyc_runs.specs.Runs.{input_limit};
 
+use crate::explanations::{Notes, Part, name_hints};
+use cyc_basics::memory::OutOfMemory;
 use cyc_lex::{LexFault, ReadFault, tokens};
-use cyc_memory::OutOfMemory;
 use formula_reader::Problem;
+use formula_reader::files::file_for;
 use goto_lang::Stack;
 use heap_formula::{Judgement, Reason, Rule};
 use logics::Numbers;
-use node_limits::are_nodes_within;
-use problem_files::file_for;
-use problem_names::{ProblemName, goal_names};
+use problem_syntax::names::{ProblemName, goal_names};
 use problem_syntax::read_problem_tree;
+use proof_file::texts::write_file;
 use proof_file::{FileNode, FileNodes};
-use proof_text::write_file;
-use solve_notes::{Notes, Part, name_hints};
+use solver::limits::are_nodes_within;
 use solver::{Budget, MOST_EFFORT, ProofSearch, Refutation, Solution};
 use std::alloc::Global;
 

@@ -6,14 +6,14 @@ ghost use Rattle.solve_top.specs.Answers.{IsAnswer};
 ghost use Rattle.solve_top.specs.Written.{WroteHolds, WroteFails};
 
 use crate::run;
+use cyc_basics::memory::OutOfMemory;
 use cyc_io::{Sink, Source};
-use cyc_memory::OutOfMemory;
 use cyc_runs::exit_code;
 use std::alloc::Global;
 use std::process::ExitCode;
 
-/// What `main` does with the words of its command line, where memory held them, and with standard input and output: a run,
-/// and the number of its status.
+/// What `main` does with the words of its command line, where memory held them, and with standard input and output: a
+/// run, and the number of its status.
 pub fn run_program<S: Source, K: Sink>(
     alloc: Global,
     words: Result<Vec<String>, OutOfMemory>,

@@ -10,16 +10,21 @@ use Rattle.proof_check.specs.Verdicts.{IsVerdict}
 use Rattle.proof_search.specs.Outcomes.{IsProofFor}
 use Rattle.solver.specs.Solutions.{IsCheckedProof}
 
-goal_holds : (p : Problem) (f : ProofFile) (root : FileNode) → f.defs ≡ p.defs → f.program ≡ p.program → slice_get f.nodes 0 ≡ Some root → root.judgement ≡ p.goal → IsVerdict f Accepted → JudgementHolds p.defs.list p.program p.goal
+goal_holds : (p : Problem) (f : ProofFile) (root : FileNode) → f.defs ≡ p.defs → f.program ≡ p.program
+    → slice_get f.nodes 0 ≡ Some root → root.judgement ≡ p.goal → IsVerdict f Accepted
+    → JudgementHolds p.defs.list p.program p.goal
 goal_holds p f root definitions program is_root goal accepted =
     let at_root : JudgementHolds f.defs.list f.program root.judgement = accepted.2 root is_root in
     subst (λ (book : DefinitionBook). JudgementHolds book.list p.program p.goal) definitions
     (subst (λ lines. JudgementHolds f.defs.list lines p.goal) program
     (subst (λ j. JudgementHolds f.defs.list f.program j) goal at_root))
 
-pub checked_proof : (p : Problem) (f : ProofFile) (nodes : List FileNode) (root : FileNode) → f.version ≡ p.version → f.defs ≡ p.defs → f.program ≡ p.program → f.nodes ≡ nodes → slice_get nodes 0 ≡ Some root → root.judgement ≡ p.goal → IsVerdict f Accepted → IsCheckedProof p f
+pub checked_proof : (p : Problem) (f : ProofFile) (nodes : List FileNode) (root : FileNode) → f.version ≡ p.version
+    → f.defs ≡ p.defs → f.program ≡ p.program → f.nodes ≡ nodes → slice_get nodes 0 ≡ Some root
+    → root.judgement ≡ p.goal → IsVerdict f Accepted → IsCheckedProof p f
 checked_proof p f nodes root version definitions program is_nodes is_root goal accepted =
-    let at_root : slice_get f.nodes 0 ≡ Some root = subst (λ (ns : List FileNode). slice_get ns 0 ≡ Some root) (sym is_nodes) is_root in
+    let at_root : slice_get f.nodes 0 ≡ Some root = subst (λ (ns : List FileNode). slice_get ns 0 ≡ Some root)
+    (sym is_nodes) is_root in
     record {
       version = version;
       definitions = definitions;

@@ -10,13 +10,15 @@ use Rattle.heap_formula.specs.Symbolic.{SymbolicHeap}
 use Rattle.heap_formula.specs.Values.{Stack}
 use Rattle.formula_reader.specs.declared.problem.Problem.{Problem}
 use Rattle.model_file.specs.declared.file.Model.{Model}
-use Rattle.counter_files.specs.Files.{IsFileFor, IsModelFor}
+use Rattle.counter_model.specs.Files.{IsFileFor, IsModelFor}
 use Rattle.solver.specs.Solutions.{IsCounterModel, IsFoundCounter, IsRefuting}
 
-module _ (p : Problem) (a : SymbolicHeap) (bs : List SymbolicHeap) (s : Stack) (h : Cells) (goal : p.goal ≡ Entail a bs) (refuting : IsRefuting p.defs.list a bs s h) where
+module _ (p : Problem) (a : SymbolicHeap) (bs : List SymbolicHeap) (s : Stack) (h : Cells) (goal : p.goal ≡ Entail a bs)
+    (refuting : IsRefuting p.defs.list a bs s h) where
   fails : ¬ JudgementHolds p.defs.list p.program p.goal
   fails holds =
-      let entails : EntailmentHolds p.defs.list a bs = subst (λ (j : Judgement). JudgementHolds p.defs.list p.program j) goal holds in
+      let entails : EntailmentHolds p.defs.list a bs = subst (λ (j : Judgement). JudgementHolds p.defs.list p.program j)
+      goal holds in
       refuting.none (entails s h refuting.antecedent)
 
   counter : (m : Model) → IsFileFor p a s h m → IsCounterModel p m
@@ -38,6 +40,7 @@ module _ (p : Problem) (a : SymbolicHeap) (bs : List SymbolicHeap) (s : Stack) (
   found_counter (Some m) is = counter m is
   found_counter None is = tt
 
-  pub counter_file : {E : Type 0} (r : Result (Option Model) E) → IfOk r (IsModelFor p a s h) → IfOk r (IsFoundCounter p)
+  pub counter_file : {E : Type 0} (r : Result (Option Model) E) → IfOk r (IsModelFor p a s h)
+      → IfOk r (IsFoundCounter p)
   counter_file (Ok o) is = found_counter o is
   counter_file (Err e) is = tt

@@ -9,10 +9,10 @@ use Rattle.heap_formula.specs.Judgements.{JudgementHolds}
 use Rattle.heap_formula.specs.Programs.{TerminationHolds}
 use Rattle.heap_formula.proofs.Unions.{union_empty}
 use Rattle.formula_reader.specs.declared.problem.Problem.{Problem}
-use Rattle.problem_runs.specs.Runs.{IsRunFor}
-use Rattle.refuting_runs.specs.declared.picks.Pick.{Pick}
-use Rattle.refuting_runs.specs.Picks.{headroom_of}
-use Rattle.refuting_runs.proofs.Halting.{no_termination}
+use Rattle.run_file.specs.Runs.{IsRunFor}
+use Rattle.general_models.specs.declared.runs.picks.Pick.{Pick}
+use Rattle.general_models.specs.Picks.{headroom_of}
+use Rattle.general_models.proofs.Halting.{no_termination}
 use Rattle.run_file.specs.declared.file.RunFile.{RunFile}
 use Rattle.run_file.specs.declared.tree.Outcome.{Outcome}
 use Rattle.solver.specs.Runs.{IsRight, ending_of}
@@ -21,17 +21,27 @@ use Rattle.solver.specs.Solutions.{Holds, IsFaultyRun}
 right_fails : (r : RunFile) → IsRight r → ¬ TerminationHolds r.defs.list r.program r.line r.precondition
 right_fails r right =
     let positive : 0 < headroom_of r.picks.items = omega arith in
-    no_termination r.defs.list r.program r.line r.precondition r.stack r.heap r.heap (headroom_of r.picks.items) r.picks.items (ending_of r.outcome) positive (no_cells, union_empty r.heap) right.begins right.run.ends
+    no_termination r.defs.list r.program r.line r.precondition r.stack r.heap r.heap (headroom_of r.picks.items)
+    r.picks.items (ending_of r.outcome) positive (no_cells, union_empty r.heap) right.begins right.run.ends
 
 module _ (p : Problem) (s : List ℕ) (h : Cells) (ps : List Pick) (o : Outcome) (r : RunFile) where
   goal_fails : IsRunFor p s h ps o r → IsRight r → ¬ Holds p
   goal_fails is right holds =
-      let claimed : TerminationHolds p.defs.list p.program r.line r.precondition = subst (λ (j : Judgement). JudgementHolds p.defs.list p.program j) is.goal holds in
+      let claimed : TerminationHolds p.defs.list p.program r.line r.precondition = subst
+      (λ (j : Judgement). JudgementHolds p.defs.list p.program j) is.goal holds in
       right_fails r right
       (subst (λ (ds : List Definition). TerminationHolds ds r.program r.line r.precondition) (sym is.definitions)
-      (subst (λ (lines : List Command). TerminationHolds p.defs.list lines r.line r.precondition) (sym is.program) claimed))
+      (subst (λ (lines : List Command). TerminationHolds p.defs.list lines r.line r.precondition) (sym is.program)
+      claimed))
 
-  pub faulty_run : (A : Type 0) (found : Option RunFile) → found ≡ Some r → MatchOption found A (IsRunFor p s h ps o) → IsRight r → IsFaultyRun p r
+  pub faulty_run : (A : Type 0) (found : Option RunFile) → found ≡ Some r → MatchOption found A (IsRunFor p s h ps o)
+      → IsRight r → IsFaultyRun p r
   faulty_run A found e told right =
       let is : IsRunFor p s h ps o r = subst (λ (x : Option RunFile). MatchOption x A (IsRunFor p s h ps o)) e told in
-      record { definitions = is.definitions; program = is.program; goal = is.goal; right = right; fails = goal_fails is right }
+      record {
+        definitions = is.definitions;
+        program = is.program;
+        goal = is.goal;
+        right = right;
+        fails = goal_fails is right;
+      }

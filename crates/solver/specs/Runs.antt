@@ -3,12 +3,12 @@ use Rattle.std.specs.Prelude.{◌≡◌, ℕ, List}
 use Rattle.heap_formula.specs.declared.commands.Command.{Command}
 use Rattle.heap_formula.specs.Meaning.{Satisfies}
 use Rattle.heap_formula.specs.Programs.{Config as State, start_at}
-use Rattle.refuting_runs.specs.declared.picks.Pick.{Pick}
-use Rattle.refuting_runs.specs.declared.refuting.Ending.{Ending}
-use Rattle.refuting_runs.specs.declared.refuting.Ending.TheVariants.{FaultAfter, Repeat}
-use Rattle.refuting_runs.specs.Picks.{headroom_of}
-use Rattle.refuting_runs.specs.Refuting.{IsRefuting}
-use Rattle.refuting_runs.specs.Runs.{PickedRun}
+use Rattle.general_models.specs.declared.runs.picks.Pick.{Pick}
+use Rattle.general_models.specs.declared.runs.refuting.Ending.{Ending}
+use Rattle.general_models.specs.declared.runs.refuting.Ending.TheVariants.{FaultAfter, Repeat}
+use Rattle.general_models.specs.Picks.{headroom_of}
+use Rattle.general_models.specs.Refuting.{IsRefuting}
+use Rattle.general_models.specs.Runs.{PickedRun}
 use Rattle.run_file.specs.declared.tree.Outcome.{Outcome}
 use Rattle.run_file.specs.declared.tree.Outcome.TheVariants.{Faults, Repeats}
 use Rattle.run_file.specs.declared.file.RunFile.{RunFile}

@@ -14,7 +14,7 @@ use Rattle.proof_check.specs.Verdicts.{IsVerdict}
 use Rattle.proof_file.specs.declared.file.ProofFile.{ProofFile}
 use Rattle.proof_file.specs.FileNodes.{FileNode}
 use Rattle.run_file.specs.declared.file.RunFile.{RunFile}
-use Rattle.sat_answers.specs.Answers.{IsPossible}
+use Rattle.command_answers.specs.Answers.{IsPossible}
 use Rattle.solver.specs.declared.solution.FoundProof.{FoundProof}
 use Rattle.solver.specs.declared.solution.Refutation.{Refutation}
 use Rattle.solver.specs.declared.solution.Refutation.TheVariants.{CounterModel, FaultyRun}
@@ -47,7 +47,8 @@ IsSought problem (Some found) = IsCheckedProof problem found.file
 IsSought problem None = Unit {0}
 
 -- the stack and the heap satisfy the antecedent and none of the disjuncts
-pub record IsRefuting (ds : List Definition) (a : SymbolicHeap) (bs : List SymbolicHeap) (s : Stack) (h : Cells) : Type 0 where
+pub record IsRefuting (ds : List Definition) (a : SymbolicHeap) (bs : List SymbolicHeap) (s : Stack) (h : Cells)
+    : Type 0 where
   pub antecedent : Satisfies ds s h a
   pub none : ¬ SatisfiesOne ds s h bs
 

@@ -3,12 +3,12 @@ ghost use Rattle.std.specs.Prelude.{◌≡◌, IfOk, IsTrue};
 ghost use Rattle.solver.specs.Solutions.{IsImpossible};
 
 use crate::budgets::Budget;
-use cyc_memory::OutOfMemory;
+use command_answers::sat::impossible_antecedents_entail;
+use cyc_basics::memory::OutOfMemory;
 use formula_reader::Problem;
+use formula_reader::files::problem_is_within;
 use heap_formula::{Heap, Spatial};
-use problem_files::problem_is_within;
 use rule_table::antecedent;
-use sat_answers::impossible_antecedents_entail;
 use sat_pairs::{Limits, PairFault, StatesFault, Table, base_pairs, satisfiable_within};
 use std::alloc::Global;
 
@@ -26,8 +26,8 @@ fn are_few_ways(table: &Table, heap: &Heap, most: u32) -> bool {
     true
 }
 
-/// Whether it is known that nothing satisfies the antecedent or precondition of the goal: that is found out where the predicates
-/// have few base pairs, and these can be chosen for its atoms in few ways.
+/// Whether it is known that nothing satisfies the antecedent or precondition of the goal: that is found out where the
+/// predicates have few base pairs, and these can be chosen for its atoms in few ways.
 pub fn is_impossible(alloc: Global, problem: &Problem, budget: Budget) -> Result<bool, OutOfMemory>
     ensures { IfOk result (λ yes. IsTrue yes → IsImpossible problem.now) }
 {

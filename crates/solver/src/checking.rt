@@ -3,12 +3,12 @@ ghost use Rattle.std.specs.Prelude.{◌≡◌, IsTrue, IfOk, Some, slice_get};
 ghost use Rattle.proof_file.specs.FileNodes.{FileNode as Node};
 ghost use Rattle.solver.specs.Solutions.{IsChecked};
 
-use cyc_limits::MOST_NODES;
-use cyc_memory::OutOfMemory;
+use crate::limits::are_nodes_within;
+use cyc_basics::limits::MOST_NODES;
+use cyc_basics::memory::OutOfMemory;
 use formula_reader::Problem;
+use formula_reader::files::file_for;
 use heap_formula::{Judgement, is_same_judgement};
-use node_limits::are_nodes_within;
-use problem_files::file_for;
 use proof_check::{Verdict, check};
 use proof_file::{FileNode, FileNodes, ProofFile};
 use std::alloc::Global;

@@ -3,10 +3,10 @@ ghost use Rattle.std.specs.Prelude.{◌≡◌, IfOk, IsTrue};
 ghost use Rattle.heap_formula.specs.declared.judgements.Judgement.{Judgement};
 ghost use Rattle.solver.specs.Solutions.{IsFoundCounter, IsRefuting};
 
-use case_derivations::{CaseStep, refutes_by_derivation};
-use counter_files::model_for;
-use cyc_memory::OutOfMemory;
+use counter_model::files::model_for;
+use cyc_basics::memory::OutOfMemory;
 use formula_reader::Problem;
+use general_models::derivations::{CaseStep, refutes_by_derivation};
 use general_models::{CheckFault, refutes};
 use goto_lang::{Cells, Stack};
 use heap_formula::{Disjuncts, Heap};

@@ -1,5 +1,5 @@
 // A draft in which every node is closed as the nodes of a file.
-use cyc_memory::OutOfMemory;
+use cyc_basics::memory::OutOfMemory;
 use heap_formula::Reason;
 use logics::Numbers;
 use proof_file::FileNode;

@@ -5,14 +5,14 @@ ghost use Rattle.solver.specs.Solutions.{IsFoundRun};
 
 use crate::counter_models::heap_of;
 use crate::reruns::is_right;
-use cyc_memory::OutOfMemory;
+use cyc_basics::memory::OutOfMemory;
 use formula_reader::Problem;
 use general_models::CheckFault;
+use general_models::runs::{Ending, Pick, RunEnd, headroom, run};
 use goto_lang::{Cells, Config, Program, Stack};
 use heap_formula::Heap;
-use problem_runs::run_for;
 use refute_runs::{FaultyRun, faulty_run};
-use refuting_runs::{Ending, Pick, RunEnd, headroom, run};
+use run_file::problems::run_for;
 use run_file::{Outcome, RunFile};
 use std::alloc::Global;
 
@@ -105,7 +105,8 @@ fn checked(
     Ok(Some(file))
 }
 
-/// Searches for a run of the goal's program from a state of its precondition, which faults or comes back, in so many rounds.
+/// Searches for a run of the goal's program from a state of its precondition, which faults or comes back, in so many
+/// rounds.
 pub fn refuting_run(
     alloc: Global,
     problem: &Problem,

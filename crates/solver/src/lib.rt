@@ -1,5 +1,5 @@
-//! What is found of a problem: a proof of its goal, a counter-model, or a run that shows that its program does not halt. The
-//! searches do as they like; what they find is checked before it is given.
+//! What is found of a problem: a proof of its goal, a counter-model, or a run that shows that its program does not
+//! halt. The searches do as they like; what they find is checked before it is given.
 #![tactic(auto)]
 
 mod antecedents;
@@ -8,13 +8,14 @@ mod checking;
 mod counter_models;
 mod drafts;
 mod faulty_runs;
+pub mod limits;
 mod proofs;
 mod reruns;
 mod solution;
 mod solving;
 
 pub use budgets::{Budget, DEFAULT_EFFORT, MOST_EFFORT};
-pub use cyc_memory::OutOfMemory;
+pub use cyc_basics::memory::OutOfMemory;
 pub use reruns::is_right;
 pub use solution::{FoundProof, ProofSearch, Refutation, Solution};
 pub use solving::solve;

@@ -6,7 +6,7 @@ use crate::budgets::Budget;
 use crate::checking::checked;
 use crate::drafts::file_nodes;
 use crate::solution::{FoundProof, ProofSearch};
-use cyc_memory::OutOfMemory;
+use cyc_basics::memory::OutOfMemory;
 use formula_reader::Problem;
 use heap_formula::Judgement;
 use proof_search::{Proved, prove};
@@ -26,7 +26,8 @@ const DEPTH: u32 = 16;
 /// A draft in which every node is closed, and which search made it.
 type FoundDraft = Option<(Draft, ProofSearch)>;
 
-/// A proof by a goal stack; where there is none, `stuck` becomes the judgement of a program on which the search gave up.
+/// A proof by a goal stack; where there is none, `stuck` becomes the judgement of a program on which the search gave
+/// up.
 fn by_stack(
     setting: Setting<'_>,
     goal: &Judgement,

@@ -1,14 +1,14 @@
 // A run of a file, once more.
 ghost use Rattle.std.specs.Prelude.{◌≡◌, ◌↔◌, ◌<◌, ◌≤◌, length, IsTrue, IfOk};
 ghost use Rattle.goto_lang.specs.States.{state_of, IsStateOf};
-ghost use Rattle.refuting_runs.specs.Picks.{headroom_of};
+ghost use Rattle.general_models.specs.Picks.{headroom_of};
 ghost use Rattle.solver.specs.Runs.{EndsSo, IsAt, IsRight, ending_of as ending_for};
 
 use crate::counter_models::MOST_CHOICES;
-use cyc_memory::OutOfMemory;
+use cyc_basics::memory::OutOfMemory;
+use general_models::runs::{Ending, Pick, RunEnd, headroom, is_refuting, run, start_state};
 use general_models::{CheckFault, satisfied_in_general};
 use goto_lang::{Config, Program};
-use refuting_runs::{Ending, Pick, RunEnd, headroom, is_refuting, run, start_state};
 use run_file::{Outcome, RunFile};
 use std::alloc::Global;
 
@@ -63,9 +63,9 @@ pub fn ends_so(
     }
 }
 
-/// Whether the stack and the heap of a run file satisfy its precondition, and the run from there, with its picks, ends as it tells:
-/// then the program does not halt from there, and the claim of termination does not hold. The question has no answer where
-/// too many choices of locals would have to be tried for the precondition.
+/// Whether the stack and the heap of a run file satisfy its precondition, and the run from there, with its picks, ends
+/// as it tells: then the program does not halt from there, and the claim of termination does not hold. The question has
+/// no answer where too many choices of locals would have to be tried for the precondition.
 pub fn is_right(alloc: Global, file: &RunFile) -> Result<bool, CheckFault>
     ensures exact { IfOk result (λ yes. IsTrue yes ↔ IsRight file.now) }
 {

@@ -4,8 +4,8 @@ use model_file::Model;
 use proof_file::ProofFile;
 use run_file::RunFile;
 
-/// Which search found a proof: the one with a stack of goals; the one by small lemmas; the one for a contradiction on the left; or
-/// the one by fixed moves, depth by depth.
+/// Which search found a proof: the one with a stack of goals; the one by small lemmas; the one for a contradiction on
+/// the left; or the one by fixed moves, depth by depth.
 #[derive(Clone, Copy)]
 pub enum ProofSearch {
     GoalStack,
@@ -24,7 +24,8 @@ pub struct FoundProof {
 /// What shows that a goal does not hold.
 #[derive(Drop)]
 pub enum Refutation {
-    /// A stack and a heap that satisfy the antecedent and none of the disjuncts, as a model file that asks for the antecedent.
+    /// A stack and a heap that satisfy the antecedent and none of the disjuncts, as a model file that asks for the
+    /// antecedent.
     CounterModel(Model),
     /// A run from a state of the precondition that faults, or comes back to a state where it was.
     FaultyRun(RunFile),
@@ -39,6 +40,7 @@ pub enum Solution {
     Impossible,
     /// It does not hold.
     Refuted(Refutation),
-    /// Nothing was found within the budget; of a program, the judgement deepest in the draft of a proof on which the search gave up.
+    /// Nothing was found within the budget; of a program, the judgement deepest in the draft of a proof on which the
+    /// search gave up.
     Unknown { stuck: Option<Judgement> },
 }

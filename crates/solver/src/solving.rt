@@ -8,7 +8,7 @@ use crate::counter_models::refuting_model;
 use crate::faulty_runs::refuting_run;
 use crate::proofs::{fixed_proof, free_proof};
 use crate::solution::{FoundProof, Refutation, Solution};
-use cyc_memory::OutOfMemory;
+use cyc_basics::memory::OutOfMemory;
 use formula_reader::Problem;
 use heap_formula::Judgement;
 use std::alloc::Global;
@@ -87,9 +87,9 @@ fn impossible(
     any_proof(alloc, problem, budget, &mut stuck)
 }
 
-/// What is found of a problem's goal, with an effort from 1 to 9: a proof, a counter-model or a faulty run, or that nothing
-/// satisfies the antecedent; each was checked. That nothing is found means nothing. The same problem has the same answer each
-/// time.
+/// What is found of a problem's goal, with an effort from 1 to 9: a proof, a counter-model or a faulty run, or that
+/// nothing satisfies the antecedent; each was checked. That nothing is found means nothing. The same problem has the
+/// same answer each time.
 pub fn solve(alloc: Global, problem: &Problem, effort: u32) -> Result<Solution, OutOfMemory>
     ensures { IfOk result (IsSolution problem.now) }
 {

@@ -1,5 +1,6 @@
 -- Numbers of fresh variables that stop after the greatest stand for the real ones where the limit is kept.
-use Rattle.std.proofs.Common.{◌≡◌, ℕ, zero, suc, ◌+◌, ◌≤◌, min, Bool, true, false, cond, List, [], ◌∷◌, ◌++◌, map, refl, ap, ◌∙◌, arith, add-one}
+use Rattle.std.proofs.Common.{◌≡◌, ℕ, zero, suc, ◌+◌, ◌≤◌, min, Bool, true, false, cond, List, [], ◌∷◌, ◌++◌, map, refl}
+use Rattle.std.proofs.Common.{ap, ◌∙◌, arith, add-one}
 use Rattle.std.specs.Prelude.{nat_eq}
 use Rattle.heap_formula.specs.declared.terms.Term.{Term}
 use Rattle.heap_formula.specs.declared.terms.Term.TheVariants.{Nil, Univ, Exist}
@@ -15,21 +16,25 @@ use Rattle.symbolic_exec.specs.States.{variables_up_to}
 
 -- ---- the variable for the old value
 
-renamed_same : (x n : ℕ) (t : Term) → number_bound (renamed_term x n t) ≤ 65535 → renamed_term x (min n 65535) t ≡ renamed_term x n t
+renamed_same : (x n : ℕ) (t : Term) → number_bound (renamed_term x n t) ≤ 65535
+    → renamed_term x (min n 65535) t ≡ renamed_term x n t
 renamed_same x n Nil h = refl
 renamed_same x n (Exist j) h = refl
 renamed_same x n (Univ j) h = by (nat_eq j x) h
   where
-    by : (b : Bool) → number_bound (cond b (Univ n) (Univ j)) ≤ 65535 → cond b (Univ (min n 65535)) (Univ j) ≡ cond b (Univ n) (Univ j)
+    by : (b : Bool) → number_bound (cond b (Univ n) (Univ j)) ≤ 65535
+        → cond b (Univ (min n 65535)) (Univ j) ≡ cond b (Univ n) (Univ j)
     by true h = let e : min n 65535 ≡ n = omega arith in ap Univ e
     by false h = refl
 
-renamed_over : (x n : ℕ) (t : Term) → number_bound (renamed_term x (min n 65535) t) ≤ 65535 → number_bound (renamed_term x n t) ≤ 65535
+renamed_over : (x n : ℕ) (t : Term) → number_bound (renamed_term x (min n 65535) t) ≤ 65535
+    → number_bound (renamed_term x n t) ≤ 65535
 renamed_over x n Nil h = h
 renamed_over x n (Exist j) h = h
 renamed_over x n (Univ j) h = by (nat_eq j x) h
   where
-    by : (b : Bool) → number_bound (cond b (Univ (min n 65535)) (Univ j)) ≤ 65535 → number_bound (cond b (Univ n) (Univ j)) ≤ 65535
+    by : (b : Bool) → number_bound (cond b (Univ (min n 65535)) (Univ j)) ≤ 65535
+        → number_bound (cond b (Univ n) (Univ j)) ≤ 65535
     by true h = omega arith
     by false h = h
 
@@ -49,7 +54,8 @@ one_more_suc : (n k : ℕ) → variables_up_to n (suc k) ≡ variables_up_to n k
 one_more_suc n zero = let e : n ≡ n + 0 = omega arith in ap (λ m. Univ (min m 65535) ∷ []) e
 one_more_suc n (suc k) =
     let e : suc n + k ≡ n + suc k = omega arith in
-    ap (λ us. Univ (min n 65535) ∷ us) (one_more_suc (suc n) k) ∙ ap (λ m. Univ (min n 65535) ∷ (variables_up_to (suc n) k ++ Univ (min m 65535) ∷ [])) e
+    ap (λ us. Univ (min n 65535) ∷ us) (one_more_suc (suc n) k)
+    ∙ ap (λ m. Univ (min n 65535) ∷ (variables_up_to (suc n) k ++ Univ (min m 65535) ∷ [])) e
 
 -- one more at the end
 pub one_more_variable : (n k : ℕ) → variables_up_to n (k + 1) ≡ variables_up_to n k ++ Univ (min (n + k) 65535) ∷ []
@@ -85,17 +91,23 @@ module _ (x n : ℕ) (a : SymbolicHeap) where
   abbrev pub new_with : ℕ → List Term → SymbolicHeap
   new_with m us = with_cell (renamed x m a) x us
 
-  pub new_same : (k : ℕ) → heap_numbers (new_with n (variables_from (n + 1) k)) ≤ 65535 → new_with (min n 65535) (variables_up_to (n + 1) k) ≡ new_with n (variables_from (n + 1) k)
+  pub new_same : (k : ℕ) → heap_numbers (new_with n (variables_from (n + 1) k)) ≤ 65535
+      → new_with (min n 65535) (variables_up_to (n + 1) k) ≡ new_with n (variables_from (n + 1) k)
   new_same k h =
-      let l = max_of-append spatial_numbers (map (in_spatial g) a.spatial) (Cell (Univ x) (variables_from (n + 1) k) ∷ []) in
+      let l = max_of-append spatial_numbers (map (in_spatial g) a.spatial)
+      (Cell (Univ x) (variables_from (n + 1) k) ∷ []) in
       let p = pures_stop f g (renamed_same x n) (renamed_over x n) a.pure (omega arith) in
       let s = spatials_stop f g (renamed_same x n) (renamed_over x n) a.spatial (omega arith) in
-      let q = fields_same (n + 1) k (omega arith) in λ i. record { pure = p i; spatial = s i ++ Cell (Univ x) (q i) ∷ [] }
+      let q = fields_same (n + 1) k (omega arith) in
+      λ i. record { pure = p i; spatial = s i ++ Cell (Univ x) (q i) ∷ [] }
 
-  pub new_over : (k : ℕ) → heap_numbers (new_with (min n 65535) (variables_up_to (n + 1) k)) ≤ 65535 → heap_numbers (new_with n (variables_from (n + 1) k)) ≤ 65535
+  pub new_over : (k : ℕ) → heap_numbers (new_with (min n 65535) (variables_up_to (n + 1) k)) ≤ 65535
+      → heap_numbers (new_with n (variables_from (n + 1) k)) ≤ 65535
   new_over k h =
-      let l = max_of-append spatial_numbers (map (in_spatial g) a.spatial) (Cell (Univ x) (variables_from (n + 1) k) ∷ []) in
-      let m = max_of-append spatial_numbers (map (in_spatial f) a.spatial) (Cell (Univ x) (variables_up_to (n + 1) k) ∷ []) in
+      let l = max_of-append spatial_numbers (map (in_spatial g) a.spatial)
+      (Cell (Univ x) (variables_from (n + 1) k) ∷ []) in
+      let m = max_of-append spatial_numbers (map (in_spatial f) a.spatial)
+      (Cell (Univ x) (variables_up_to (n + 1) k) ∷ []) in
       let p = pures_pass f g (renamed_same x n) (renamed_over x n) a.pure (omega arith) in
       let s = spatials_pass f g (renamed_same x n) (renamed_over x n) a.spatial (omega arith) in
       let q = fields_over (n + 1) k (omega arith) in omega arith

@@ -1,12 +1,12 @@
 -- Symbolic states as the program makes them, and their sizes.
 use Rattle.std.specs.Prelude.{ℕ, zero, suc, ◌+◌, ◌≤◌, min, List, [], ◌∷◌, length, Bool, ◌&&◌, nat_le}
-use Rattle.cyc_limits.specs.declared.TheConstants.{MOST_LINES, MOST_PURE, MOST_SPATIAL}
+use Rattle.cyc_basics.specs.declared.limits.TheConstants.{MOST_LINES, MOST_PURE, MOST_SPATIAL}
 use Rattle.heap_formula.specs.declared.terms.Term.{Term}
 use Rattle.heap_formula.specs.declared.terms.Term.TheVariants.{Univ}
 use Rattle.heap_formula.specs.declared.commands.Command.{Command}
 use Rattle.heap_formula.specs.declared.commands.Command.TheVariants.{New}
 use Rattle.heap_formula.specs.Symbolic.{SymbolicHeap}
-use Rattle.symbolic_exec.specs.declared.commands.Setting.{Setting}
+use Rattle.symbolic_exec.specs.declared.commands.LineSetting.{LineSetting}
 use Rattle.heap_formula.specs.declared.atoms.Pure.{Pure}
 use Rattle.heap_formula.specs.declared.atoms.Pure.TheVariants.{Eq}
 use Rattle.heap_formula.specs.declared.judgements.Premise.{Premise}
@@ -23,7 +23,7 @@ abbrev pub has_room_for : ℕ → ℕ → ℕ → SymbolicHeap → Bool
 has_room_for most pure spatial a = nat_le (length a.pure + pure) MOST_PURE && nat_le (length a.spatial + spatial) most
 
 -- a line of a program, a number for a fresh variable, and a limit of some version
-abbrev pub IsSetting : Setting → Type 0
+abbrev pub IsSetting : LineSetting → Type 0
 IsSetting at = (at.line ≤ MOST_LINES) × (at.fresh ≤ 65536) × (at.most ≤ MOST_SPATIAL)
 
 -- the number of fields of a new cell, 0 where there is none
@@ -36,6 +36,6 @@ abbrev pub after_assignment : ℕ → ℕ → Term → SymbolicHeap → Symbolic
 after_assignment x n t a = with_atom (renamed x n a) (Eq (Univ x) (renamed_term x n t))
 
 -- the target where an atom holds, the next line where the other does
-abbrev pub branch_premises : Setting → ℕ → SymbolicHeap → Pure → Pure → List Premise
+abbrev pub branch_premises : LineSetting → ℕ → SymbolicHeap → Pure → Pure → List Premise
 branch_premises at target a holds fails =
     two (at_line target a (with_atom a holds)) (at_line (at.line + 1) a (with_atom a fails))

@@ -12,8 +12,8 @@ ghost use Rattle.symbolic_exec.specs.States.{has_room_for, IsSetting, new_fields
 
 use crate::cells::{FoundCell, cell_at, field_at, with_field};
 use crate::states::{allocated, assigned, at_line, only_at_line, with_atom};
-use cyc_limits::{MOST_ARGUMENTS, MOST_PURE};
-use cyc_memory::OutOfMemory;
+use cyc_basics::limits::{MOST_ARGUMENTS, MOST_PURE};
+use cyc_basics::memory::OutOfMemory;
 use heap_formula::{Command, Heap, Judgement, Premise, Pure, RuleError, RuleFault, Spatial, Term};
 use rule_table::{is_short, numbered, one_premise, pairs_of_kept, two_premises};
 use std::alloc::Global;
@@ -21,7 +21,7 @@ use std::alloc::Global;
 /// What premises depend on besides the command and the state: the command's line, the number of a fresh variable, and
 /// the greatest number of spatial atoms of a heap.
 #[derive(Clone, Copy)]
-pub struct Setting {
+pub struct LineSetting {
     pub line: u32,
     pub fresh: u32,
     pub most: u8,
@@ -39,7 +39,7 @@ fn has_room(most: u8, a: &Heap, pure: usize, spatial: usize) -> bool
 }
 
 // The old value of x has the fresh number, also in the term that x gets.
-fn set(alloc: Global, at: Setting, a: &Heap, x: u16, t: Term) -> Result<Vec<Premise>, RuleError>
+fn set(alloc: Global, at: LineSetting, a: &Heap, x: u16, t: Term) -> Result<Vec<Premise>, RuleError>
     requires { IsSetting at }
     ensures { IsAnswer result
         (limited at.most (one (premise_at (at.line + 1) a.now (after_assignment x at.fresh t a.now)))) }
@@ -53,7 +53,7 @@ fn set(alloc: Global, at: Setting, a: &Heap, x: u16, t: Term) -> Result<Vec<Prem
 
 fn load(
     alloc: Global,
-    at: Setting,
+    at: LineSetting,
     a: &Heap,
     x: u16,
     t: Term,
@@ -84,7 +84,7 @@ fn written(alloc: Global, a: &Heap, cell: &FoundCell, k: u8, u: Term) -> Result<
 
 fn store(
     alloc: Global,
-    at: Setting,
+    at: LineSetting,
     a: &Heap,
     t: Term,
     k: u8,
@@ -106,7 +106,7 @@ fn store(
     numbered(only_at_line(alloc, at.line + 1, a, after)?)
 }
 
-fn new(alloc: Global, at: Setting, a: &Heap, x: u16, k: u8) -> Result<Vec<Premise>, RuleError>
+fn new(alloc: Global, at: LineSetting, a: &Heap, x: u16, k: u8) -> Result<Vec<Premise>, RuleError>
     requires setting { IsSetting at }
     requires few { k ≤ MOST_ARGUMENTS }
     ensures { IsAnswer result (command_answer at.most at.line a.now at.fresh (New x k)) }
@@ -137,7 +137,7 @@ fn freed_premise(
     )
 }
 
-fn free(alloc: Global, at: Setting, a: &Heap, t: Term) -> Result<Vec<Premise>, RuleError>
+fn free(alloc: Global, at: LineSetting, a: &Heap, t: Term) -> Result<Vec<Premise>, RuleError>
     requires { IsSetting at }
     ensures { IsAnswer result (command_answer at.most at.line a.now at.fresh (Free t)) }
 {
@@ -153,7 +153,7 @@ fn free(alloc: Global, at: Setting, a: &Heap, t: Term) -> Result<Vec<Premise>, R
 
 fn branches(
     alloc: Global,
-    at: Setting,
+    at: LineSetting,
     a: &Heap,
     target: u32,
     holds: Pure,
@@ -171,7 +171,7 @@ fn branches(
 // The target where an atom holds, the next line where the other does.
 fn test(
     alloc: Global,
-    at: Setting,
+    at: LineSetting,
     a: &Heap,
     target: u32,
     holds: Pure,
@@ -186,7 +186,7 @@ fn test(
     numbered(branches(alloc, at, a, target, holds, fails)?)
 }
 
-fn goto(alloc: Global, at: Setting, a: &Heap, target: u32) -> Result<Vec<Premise>, RuleError>
+fn goto(alloc: Global, at: LineSetting, a: &Heap, target: u32) -> Result<Vec<Premise>, RuleError>
     ensures { IsAnswer result (command_answer at.most at.line a.now at.fresh (Goto target)) }
 {
     if !is_short(at.most, a) {
@@ -195,7 +195,7 @@ fn goto(alloc: Global, at: Setting, a: &Heap, target: u32) -> Result<Vec<Premise
     numbered(only_at_line(alloc, target, a, a.clone()?)?)
 }
 
-fn any(alloc: Global, at: Setting, a: &Heap, target: u32) -> Result<Vec<Premise>, RuleError>
+fn any(alloc: Global, at: LineSetting, a: &Heap, target: u32) -> Result<Vec<Premise>, RuleError>
     requires { IsSetting at }
     ensures { IsAnswer result (command_answer at.most at.line a.now at.fresh (IfAny target)) }
 {
@@ -210,7 +210,7 @@ fn any(alloc: Global, at: Setting, a: &Heap, target: u32) -> Result<Vec<Premise>
 /// The premises of a command at a symbolic state.
 pub fn command_premises(
     alloc: Global,
-    at: Setting,
+    at: LineSetting,
     a: &Heap,
     command: Command,
 ) -> Result<Vec<Premise>, RuleError>

@@ -10,8 +10,8 @@ ghost use Rattle.rule_table.specs.ExecTable.{exec_answer};
 ghost use Rattle.rule_table.specs.Soundness.{IsUniversalPremise};
 ghost use Rattle.symbolic_exec.specs.Lines.{IsPremiseAtLine};
 
-use crate::commands::{Setting, command_premises};
-use cyc_limits::MOST_SPATIAL;
+use crate::commands::{LineSetting, command_premises};
+use cyc_basics::limits::MOST_SPATIAL;
 use goto_lang::Program;
 use heap_formula::{Command, Judgement, Premise, RuleError, RuleFault};
 use rule_table::fresh;
@@ -44,7 +44,7 @@ fn exec(
     let Some(command) = command_at(program, *line) else {
         return Err(RuleError::Fault(RuleFault::WrongJudgement));
     };
-    let setting = Setting {
+    let setting = LineSetting {
         line: *line,
         fresh: fresh(judgement, program.variables()),
         most,
@@ -53,9 +53,9 @@ fn exec(
 }
 
 /// What is left of a judgement on the program's runs after the command at its line: a premise for each line to which
-/// the command may lead, none at `stop`. A command that reads, writes or frees takes the first cell whose address is its
-/// term or stands with it in one equation. `most` is the greatest number of spatial atoms of a heap, 16 or 32 by the
-/// format's version. Where the line is none of the program's, the answer is `WrongJudgement`, as for an entailment.
+/// the command may lead, none at `stop`. A command that reads, writes or frees takes the first cell whose address is
+/// its term or stands with it in one equation. `most` is the greatest number of spatial atoms of a heap, 16 or 32 by
+/// the format's version. Where the line is none of the program's, the answer is `WrongJudgement`, as for an entailment.
 pub fn premises_exec(
     alloc: Global,
     program: &Program,

@@ -7,5 +7,5 @@ mod commands;
 mod exec;
 mod states;
 
-pub use cyc_memory::OutOfMemory;
+pub use cyc_basics::memory::OutOfMemory;
 pub use exec::premises_exec;

@@ -3,11 +3,12 @@ ghost use Rattle.std.specs.Prelude.{◌≡◌, ◌<◌, ◌≤◌, ◌+◌, [], 
 ghost use Rattle.heap_formula.specs.declared.atoms.Pure.TheVariants.{Eq};
 ghost use Rattle.heap_formula.specs.declared.terms.Term.TheVariants.{Univ};
 ghost use Rattle.rule_table.specs.Answer.{one};
-ghost use Rattle.rule_table.specs.ExecTable.{renamed, with_atom as heap_with_atom, with_cell as heap_with_cell, at_line as premise_at};
+ghost use Rattle.rule_table.specs.ExecTable.{renamed, with_atom as heap_with_atom, with_cell as heap_with_cell};
+ghost use Rattle.rule_table.specs.ExecTable.{at_line as premise_at};
 ghost use Rattle.symbolic_exec.specs.States.{variables_up_to, after_assignment};
 
-use cyc_limits::{MOST_ARGUMENTS, MOST_PURE, MOST_SPATIAL};
-use cyc_memory::OutOfMemory;
+use cyc_basics::limits::{MOST_ARGUMENTS, MOST_PURE, MOST_SPATIAL};
+use cyc_basics::memory::OutOfMemory;
 use heap_formula::{
     Args, Heap, Judgement, Premise, Pure, Spatial, Subst, Term, apply_to_heap, apply_to_term,
 };
@@ -99,7 +100,8 @@ fn variables(n: u32, k: u8) -> Args
     Args::from_slice(&terms[..k as usize])
 }
 
-/// The state after `x := new k`: variable `n` stands for the old value of `x`, and those after it for the cell's fields.
+/// The state after `x := new k`: variable `n` stands for the old value of `x`, and those after it for the cell's
+/// fields.
 pub fn allocated(alloc: Global, a: &Heap, x: u16, n: u32, k: u8) -> Result<Heap, OutOfMemory>
     requires small { n ≤ 65536 }
     requires few { k ≤ MOST_ARGUMENTS }

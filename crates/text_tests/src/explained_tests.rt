@@ -1,7 +1,7 @@
 // Mistakes that are often made, with the lines that explain them.
 
 use formula_reader::read_problem;
-use solve_notes::{explained, name_hints};
+use solve_top::explanations::{explained, name_hints};
 use std::alloc::Global;
 use std::test::Fail;
 

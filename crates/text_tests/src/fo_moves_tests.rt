@@ -3,11 +3,11 @@ ghost use Rattle.std.specs.Prelude.{ℕ, ◌≤◌, length, IfOk};
 ghost use Rattle.fo_formula.specs.Meaning.{cases_of};
 ghost use Rattle.fo_logic.specs.Files.{IsFoProof};
 
-use derivation_search::Cursor;
+use derivations::search::Cursor;
 use fo_file::read_fo;
 use fo_formula::{FoFile, FoLink, FoNode, FoReason, FoRule, FoSequent, FoTheory};
-use fo_moves::{links_to, rules_after, rules_before};
-use fo_parts::size_of_sequent;
+use fo_rules::parts::size_of_sequent;
+use fo_search::moves::{links_to, rules_after, rules_before};
 use std::alloc::Global;
 use std::test::Fail;
 

@@ -1,6 +1,13 @@
-//! Tests of models, of run files, of first-order texts and offers, and of what is said of faults; there is nothing else here.
+//! Tests of texts, models, run files, links, proof graphs, sources and sinks, and of what is said of faults; nothing
+//! else.
 #![tactic(auto)]
 
+#[cfg(test)]
+mod back_links_tests;
+#[cfg(test)]
+mod check_answers_tests;
+#[cfg(test)]
+mod cyc_io_tests;
 #[cfg(test)]
 mod explained_tests;
 #[cfg(test)]
@@ -12,4 +19,10 @@ mod long_list_tests;
 #[cfg(test)]
 mod model_file_tests;
 #[cfg(test)]
+mod node_reasons_tests;
+#[cfg(test)]
+mod proof_graph_tests;
+#[cfg(test)]
 mod run_file_tests;
+#[cfg(test)]
+mod texts;

@@ -1,5 +1,5 @@
 // A heap that is much larger than one of a model file.
-use cyc_memory::OutOfMemory;
+use cyc_basics::memory::OutOfMemory;
 use goto_lang::Cells;
 use model_check::{constructive, satisfied};
 use model_file::{Model, read_model};

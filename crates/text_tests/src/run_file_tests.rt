@@ -58,8 +58,8 @@ repeats step 999999999 step 0;
 end;
 ";
 
-/// A text in the written form is written as it stands; no word of a run file is reserved; picks may have any addresses, one
-/// of them twice.
+/// A text in the written form is written as it stands; no word of a run file is reserved; picks may have any addresses,
+/// one of them twice.
 #[test]
 fn writes_what_it_reads(rt: HostRuntime) -> Result<(), Fail> {
     for text in [SHORT, PICKED, NAMES] {

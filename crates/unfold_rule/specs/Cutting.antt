@@ -1,7 +1,7 @@
 -- The premises of Cut, as the program makes them, and their sizes.
 use Rattle.std.specs.Prelude.{ℕ, ◌+◌, length, Bool, ◌&&◌, nat_le, List, max}
 use Rattle.std.specs.List.{list_all}
-use Rattle.cyc_limits.specs.declared.TheConstants.{MOST_PURE}
+use Rattle.cyc_basics.specs.declared.limits.TheConstants.{MOST_PURE}
 use Rattle.heap_formula.specs.declared.terms.Term.{Term}
 use Rattle.heap_formula.specs.declared.judgements.Judgement.{Judgement}
 use Rattle.heap_formula.specs.declared.judgements.Premise.{Premise}
@@ -19,8 +19,10 @@ use Rattle.rule_table.specs.Tests.{has_number}
 abbrev pub cut_right_by : Judgement → (ℕ → Bool) → (Term → Term) → SymbolicHeap → Premise
 cut_right_by j p f formula =
     record {
-      judgement = with_antecedent j (joined (antecedent j).pure (chosen (others_of p) (antecedent j).spatial) (in_heap f formula));
-      pairs = pairs_from (chosen_place (others_of p) (antecedent j).spatial) 0 (chosen (others_of p) (antecedent j).spatial);
+      judgement = with_antecedent j (joined (antecedent j).pure (chosen (others_of p) (antecedent j).spatial)
+          (in_heap f formula));
+      pairs = pairs_from (chosen_place (others_of p) (antecedent j).spatial) 0
+          (chosen (others_of p) (antecedent j).spatial);
     }
 
 -- both premises, with a map of terms for the formula's
@@ -36,7 +38,10 @@ placed_cut_answer most p j places formula =
     (two (cut_left (antecedent j) (has_number places) formula)
     (cut_right j (has_number places) formula (max (fresh_number p j) (heap_bound formula))))
 
--- both premises are within the limits, where n spatial atoms stay: the first has the others, the second these and the formula's
+-- both premises are within the limits, where n spatial atoms stay: the first has the others, the second these and the
+-- formula's
 abbrev pub cut_fits : ℕ → Judgement → ℕ → SymbolicHeap → Bool
 cut_fits most j n formula =
-    nat_le (length (antecedent j).spatial) (n + most) && (nat_le (length (antecedent j).pure + length formula.pure) MOST_PURE && (nat_le (n + length formula.spatial) most && list_all (is_short most) (disjuncts j)))
+    nat_le (length (antecedent j).spatial) (n + most) &&
+    (nat_le (length (antecedent j).pure + length formula.pure) MOST_PURE &&
+    (nat_le (n + length formula.spatial) most && list_all (is_short most) (disjuncts j)))

@@ -1,7 +1,7 @@
 -- The premises of Unfold and UnfoldRight, as the program makes them, and their sizes.
 use Rattle.std.specs.Prelude.{ℕ, ◌+◌, [], ◌∷◌, ◌++◌, length, Bool, ◌&&◌, nat_le, List, map, slice_get}
 use Rattle.std.specs.List.{list_all}
-use Rattle.cyc_limits.specs.declared.TheConstants.{MOST_PURE}
+use Rattle.cyc_basics.specs.declared.limits.TheConstants.{MOST_PURE}
 use Rattle.heap_formula.specs.declared.terms.Term.{Term}
 use Rattle.heap_formula.specs.declared.judgements.Judgement.{Judgement}
 use Rattle.heap_formula.specs.declared.judgements.Premise.{Premise}
@@ -23,13 +23,16 @@ abbrev pub unfolded_by : Judgement → ℕ → (Term → Term) → SymbolicHeap 
 unfolded_by j k f case =
     record {
       judgement = with_antecedent j (unfolded (antecedent j) k (in_heap f case));
-      pairs = kept_pairs k (antecedent j).spatial ++ child_pairs k (length (without k (antecedent j).spatial)) (in_heap f case).spatial;
+      pairs = kept_pairs k (antecedent j).spatial ++ child_pairs k (length (without k (antecedent j).spatial))
+          (in_heap f case).spatial;
     }
 
 -- the premise of this case is within the limits; one spatial atom goes
 abbrev pub case_fits : ℕ → Judgement → SymbolicHeap → Bool
 case_fits most j case =
-    nat_le (length (antecedent j).pure + length case.pure) MOST_PURE && (nat_le (length (antecedent j).spatial + length case.spatial) (most + 1) && list_all (is_short most) (disjuncts j))
+    nat_le (length (antecedent j).pure + length case.pure) MOST_PURE &&
+    (nat_le (length (antecedent j).spatial + length case.spatial) (most + 1) && list_all (is_short most)
+    (disjuncts j))
 
 -- with a map of terms for the case's
 abbrev pub right_by : SymbolicHeap → SymbolicHeap → ℕ → (Term → Term) → SymbolicHeap → Premise
@@ -38,7 +41,8 @@ right_by a b k f case = with_right a (unfolded b k (in_heap f case) ∷ [])
 -- the premise is within the limits; one spatial atom of the disjunct goes
 abbrev pub right_fits : ℕ → SymbolicHeap → SymbolicHeap → SymbolicHeap → Bool
 right_fits most a b case =
-    is_short most a && (nat_le (length b.pure + length case.pure) MOST_PURE && nat_le (length b.spatial + length case.spatial) (most + 1))
+    is_short most a && (nat_le (length b.pure + length case.pure) MOST_PURE && nat_le
+    (length b.spatial + length case.spatial) (most + 1))
 
 -- ---- answers, from the atom and the case on that were found
 

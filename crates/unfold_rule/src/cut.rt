@@ -13,8 +13,8 @@ ghost use Rattle.rule_table.specs.Tests.{has_number};
 ghost use Rattle.unfold_rule.specs.Cutting.{cut_right_by, cut_fits, cut_by, placed_cut_answer};
 
 use crate::joining::joined_heap;
-use cyc_limits::{MOST_PURE, MOST_SPATIAL};
-use cyc_memory::OutOfMemory;
+use cyc_basics::limits::{MOST_PURE, MOST_SPATIAL};
+use cyc_basics::memory::OutOfMemory;
 use heap_formula::{
     Disjuncts, Heap, Judgement, Positions, Premise, RuleError, RuleFault, Spatial, bound_of_heap,
 };
@@ -151,8 +151,8 @@ fn cut(
 
 /// Two premises: the antecedent's pure atoms and its spatial atoms at the positions, counted from 0 and strictly
 /// ascending, entail the formula; and the judgement with the formula in their place, fresh universal variables standing
-/// for its existential ones. `p` is the number of program variables, 0 for an entailment, and `most` the greatest number
-/// of spatial atoms of a heap, 16 or 32 by the format's version.
+/// for its existential ones. `p` is the number of program variables, 0 for an entailment, and `most` the greatest
+/// number of spatial atoms of a heap, 16 or 32 by the format's version.
 pub fn premises_cut(
     alloc: Global,
     judgement: &Judgement,

@@ -5,8 +5,8 @@ ghost use Rattle.heap_formula.specs.Substitution.{in_heap};
 ghost use Rattle.rule_table.specs.Changes.{changed, IsSmall};
 ghost use Rattle.unfold_rule.specs.Joining.{joined};
 
-use cyc_limits::{MOST_PURE, MOST_SPATIAL};
-use cyc_memory::OutOfMemory;
+use cyc_basics::limits::{MOST_PURE, MOST_SPATIAL};
+use cyc_basics::memory::OutOfMemory;
 use heap_formula::{Heap, Pure, Spatial};
 use rule_table::{Change, push_changed_pure, push_changed_spatial};
 use std::alloc::Global;

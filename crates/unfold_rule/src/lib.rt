@@ -8,6 +8,6 @@ mod unfold;
 mod unfold_right;
 
 pub use cut::premises_cut;
-pub use cyc_memory::OutOfMemory;
+pub use cyc_basics::memory::OutOfMemory;
 pub use unfold::premises_unfold;
 pub use unfold_right::premises_unfold_right;

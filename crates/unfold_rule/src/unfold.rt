@@ -11,8 +11,8 @@ ghost use Rattle.rule_table.specs.Table.{unfold_answer};
 ghost use Rattle.unfold_rule.specs.Unfolding.{unfolded_by, case_fits, unfold_cases_answer};
 
 use crate::joining::{joined_heap, kept_atoms};
-use cyc_limits::{MOST_PURE, MOST_SPATIAL};
-use cyc_memory::OutOfMemory;
+use cyc_basics::limits::{MOST_PURE, MOST_SPATIAL};
+use cyc_basics::memory::OutOfMemory;
 use heap_formula::{Args, Heap, Judgement, Pair, Pairs, Premise, RuleError, RuleFault, Spatial};
 use pred_defs::Defs;
 use rule_table::{
@@ -170,8 +170,8 @@ fn unfold(
 }
 
 /// One premise for each case of the predicate at spatial atom `k` of the antecedent, counted from 0: the case's atoms
-/// are appended in its place, the arguments standing for the parameters and fresh universal variables for the locals. `p`
-/// is the number of program variables, 0 for an entailment.
+/// are appended in its place, the arguments standing for the parameters and fresh universal variables for the locals.
+/// `p` is the number of program variables, 0 for an entailment.
 pub fn premises_unfold(
     alloc: Global,
     defs: &Defs,

@@ -10,8 +10,8 @@ ghost use Rattle.rule_table.specs.Table.{unfold_right_answer};
 ghost use Rattle.unfold_rule.specs.Unfolding.{right_by, right_fits, right_case_answer, right_call_answer};
 
 use crate::joining::{joined_heap, kept_atoms};
-use cyc_limits::{MOST_PURE, MOST_SPATIAL};
-use cyc_memory::OutOfMemory;
+use cyc_basics::limits::{MOST_PURE, MOST_SPATIAL};
+use cyc_basics::memory::OutOfMemory;
 use heap_formula::{Args, Heap, Judgement, Premise, RuleError, RuleFault, Spatial, exists_in_heap};
 use pred_defs::Defs;
 use rule_table::{Change, is_short, numbered, one_premise, with_disjunct};
@@ -118,8 +118,8 @@ fn unfold_right(
 }
 
 /// The entailment with case `c` of the predicate at spatial atom `k` of its one disjunct, both counted from 0: the
-/// case's atoms are appended in its place, the arguments standing for the parameters and fresh existential variables for
-/// the locals.
+/// case's atoms are appended in its place, the arguments standing for the parameters and fresh existential variables
+/// for the locals.
 pub fn premises_unfold_right(
     alloc: Global,
     defs: &Defs,

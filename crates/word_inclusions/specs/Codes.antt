@@ -31,7 +31,8 @@ pub first_of : List Expression → Expression
 first_of [] = Zero
 first_of (e ∷ es) = e
 
-pub read_again : (e : Expression) (ns : List ℕ) (es : List Expression) → with_numbers (numbers e ns) es ≡ with_numbers ns (e ∷ es)
+pub read_again : (e : Expression) (ns : List ℕ) (es : List Expression)
+    → with_numbers (numbers e ns) es ≡ with_numbers ns (e ∷ es)
 unfolding numbers
 read_again Zero ns es = refl
 read_again One ns es = refl
@@ -49,5 +50,6 @@ decodes e = let p = read_again e [] [] in λ i. first_of (p i)
 
 pub sides_code : Coded Sides
 sides_code =
-    code_by (List ℕ × List ℕ) (coded× (coded_list coded_ℕ) (coded_list coded_ℕ)) (λ s. (numbers s.left [], numbers s.right [])) (λ p. sides (decoded p.0) (decoded p.1))
+    code_by (List ℕ × List ℕ) (coded× (coded_list coded_ℕ) (coded_list coded_ℕ))
+    (λ s. (numbers s.left [], numbers s.right [])) (λ p. sides (decoded p.0) (decoded p.1))
     (λ s. λ i. sides (decodes s.left i) (decodes s.right i))

@@ -1,8 +1,10 @@
 -- What follows a letter by the derivative does so in a word of the expression.
-use Rattle.std.proofs.Common.{◌≡◌, ℕ, suc, Bool, true, false, cond, nat_eq, [], ◌∷◌, ◌++◌, ◌⊎◌, refl, sym, ap, ◌∙◌, subst, inl, inr, eqb-true, append_assoc}
+use Rattle.std.proofs.Common.{◌≡◌, ℕ, suc, Bool, true, false, cond, nat_eq, [], ◌∷◌, ◌++◌, ◌⊎◌, refl, sym, ap, ◌∙◌}
+use Rattle.std.proofs.Common.{subst, inl, inr, eqb-true, append_assoc}
 use Rattle.std.proofs.lemmas.Bool.{or_cases, and_parts}
 use Rattle.std.proofs.lemmas.List.{append-nil}
-use Rattle.word_inclusions.specs.Expressions.{Expression, Zero, One, Letter, Sum, Product, Star, nullable, followed_by, is_among, with, partials, derivative}
+use Rattle.word_inclusions.specs.Expressions.{Expression, Zero, One, Letter, Sum, Product, Star, nullable, followed_by}
+use Rattle.word_inclusions.specs.Expressions.{is_among, with, partials, derivative}
 use Rattle.word_inclusions.specs.Language.{Word, IsJoined, IsWord}
 
 -- a nullable expression has the empty word
@@ -25,7 +27,8 @@ followed : (e k : Expression) (w : Word) → IsWord (followed_by e k) w → IsJo
 followed e One w h = alone (IsWord e) (IsWord One) w h refl
 followed e k w h = h
 
-with_by : (t : Bool) (x others : Expression) (w : Word) → IsWord (cond t others (Sum x others)) w → IsWord x w ⊎ IsWord others w
+with_by : (t : Bool) (x others : Expression) (w : Word) → IsWord (cond t others (Sum x others)) w
+    → IsWord x w ⊎ IsWord others w
 with_by true x others w h = inr h
 with_by false x others w h = h
 
@@ -37,7 +40,8 @@ Behind a e u = IsWord e (a ∷ u)
 abbrev IsPartial : ℕ → Expression → Expression → Expression → Word → Type 0
 IsPartial a e k others w = IsJoined (Behind a e) (IsWord k) w ⊎ IsWord others w
 
-letter_by : (t : Bool) (a b : ℕ) (k others : Expression) (w : Word) → (t ≡ true → a ≡ b) → IsWord (cond t (with k others) others) w → IsPartial a (Letter b) k others w
+letter_by : (t : Bool) (a b : ℕ) (k others : Expression) (w : Word) → (t ≡ true → a ≡ b)
+    → IsWord (cond t (with k others) others) w → IsPartial a (Letter b) k others w
 letter_by false a b k others w is h = inr h
 letter_by true a b k others w is h =
     elim (with_by (is_among k others) k others w h) [
@@ -45,17 +49,25 @@ letter_by true a b k others w is h =
       | inr x ↦ inr x
     ]
 
-nullable_by : (t : Bool) (a : ℕ) (e f k others : Expression) (w : Word) → (t ≡ true → IsWord e []) → (IsWord (partials a f k others) w → IsPartial a f k others w)
+nullable_by : (t : Bool) (a : ℕ) (e f k others : Expression) (w : Word) → (t ≡ true → IsWord e [])
+    → (IsWord (partials a f k others) w → IsPartial a f k others w)
     → IsWord (cond t (partials a f k others) others) w → IsPartial a (Product e f) k others w
 nullable_by false a e f k others w is each h = inr h
 nullable_by true a e f k others w is each h =
     elim (each h) [
-      | inl j ↦ inl (record { front = j.front; back = j.back; is = j.is; first = record { front = []; back = a ∷ j.front; is = refl; first = is refl; second = j.first }; second = j.second })
+      | inl j ↦ inl (record {
+        front = j.front;
+        back = j.back;
+        is = j.is;
+        first = record { front = []; back = a ∷ j.front; is = refl; first = is refl; second = j.first };
+        second = j.second;
+      })
       | inr x ↦ inr x
     ]
 
 -- e is behind the letter, then f, then k
-regrouped : (E F K : Word → Type 0) (w u v : Word) → w ≡ u ++ v → E u → (j : IsJoined F K v) → IsJoined (IsJoined E F) K w
+regrouped : (E F K : Word → Type 0) (w u v : Word) → w ≡ u ++ v → E u → (j : IsJoined F K v)
+    → IsJoined (IsJoined E F) K w
 regrouped E F K w u v is h j = record {
   front = u ++ j.front;
   back = j.back;
@@ -64,7 +76,8 @@ regrouped E F K w u v is h j = record {
   second = j.second;
 }
 
-pub partial_word : (a : ℕ) (e k others : Expression) (w : Word) → IsWord (partials a e k others) w → IsPartial a e k others w
+pub partial_word : (a : ℕ) (e k others : Expression) (w : Word) → IsWord (partials a e k others) w
+    → IsPartial a e k others w
 partial_word a Zero k others w h = inr h
 partial_word a One k others w h = inr h
 partial_word a (Letter b) k others w h = letter_by (nat_eq a b) a b k others w (λ t. eqb-true a b t) h
@@ -79,15 +92,44 @@ partial_word a (Sum e f) k others w h =
 partial_word a (Product e f) k others w h =
     elim (partial_word a e (followed_by f k) (cond (nullable e) (partials a f k others) others) w h) [
       | inl j ↦ (
-          let g = regrouped (Behind a e) (IsWord f) (IsWord k) w j.front j.back j.is j.first (followed f k j.back j.second) in
-          inl (record { front = g.front; back = g.back; is = g.is; first = record { front = a ∷ g.first.front; back = g.first.back; is = ap (λ (x : Word). a ∷ x) g.first.is; first = g.first.first; second = g.first.second }; second = g.second }))
+          let g = regrouped (Behind a e) (IsWord f) (IsWord k) w j.front j.back j.is j.first
+          (followed f k j.back j.second) in
+          inl (record {
+            front = g.front;
+            back = g.back;
+            is = g.is;
+            first = record {
+              front = a ∷ g.first.front;
+              back = g.first.back;
+              is = ap (λ (x : Word). a ∷ x) g.first.is;
+              first = g.first.first;
+              second = g.first.second;
+            };
+            second = g.second;
+          }))
       | inr r ↦ nullable_by (nullable e) a e f k others w (empty_word e) (partial_word a f k others w) r
     ]
 partial_word a (Star e) k others w h =
     elim (partial_word a e (followed_by (Star e) k) others w h) [
       | inl j ↦ (
-          let g = regrouped (Behind a e) (IsWord (Star e)) (IsWord k) w j.front j.back j.is j.first (followed (Star e) k j.back j.second) in
-          inl (record { front = g.front; back = g.back; is = g.is; first = (suc g.first.second.0, record { front = a ∷ g.first.front; back = g.first.back; is = ap (λ (x : Word). a ∷ x) g.first.is; first = g.first.first; second = g.first.second.1 }); second = g.second }))
+          let g = regrouped (Behind a e) (IsWord (Star e)) (IsWord k) w j.front j.back j.is j.first
+          (followed (Star e) k j.back j.second) in
+          inl (record {
+            front = g.front;
+            back = g.back;
+            is = g.is;
+            first = (
+              suc g.first.second.0,
+              record {
+                front = a ∷ g.first.front;
+                back = g.first.back;
+                is = ap (λ (x : Word). a ∷ x) g.first.is;
+                first = g.first.first;
+                second = g.first.second.1;
+              },
+            );
+            second = g.second;
+          }))
       | inr x ↦ inr x
     ]
 
@@ -95,6 +137,7 @@ partial_word a (Star e) k others w h =
 pub derivative_word : (a : ℕ) (e : Expression) (w : Word) → IsWord (derivative a e) w → IsWord e (a ∷ w)
 derivative_word a e w h =
     elim (partial_word a e One Zero w h) [
-      | inl j ↦ subst (Behind a e) (sym (j.is ∙ (ap (λ (x : Word). j.front ++ x) j.second ∙ append-nil j.front))) j.first
+      | inl j ↦ subst (Behind a e) (sym (j.is ∙ (ap (λ (x : Word). j.front ++ x) j.second ∙ append-nil j.front)))
+          j.first
       | inr x ↦ absurd x
     ]

@@ -61,7 +61,8 @@ partials a Zero k others = others
 partials a One k others = others
 partials a (Letter b) k others = if nat_eq a b then with k others else others
 partials a (Sum e f) k others = partials a e k (partials a f k others)
-partials a (Product e f) k others = partials a e (followed_by f k) (if nullable e then partials a f k others else others)
+partials a (Product e f) k others = partials a e (followed_by f k)
+    (if nullable e then partials a f k others else others)
 partials a (Star e) k others = partials a e (followed_by (Star e) k) others
 
 -- the derivative: what may follow the letter in a word of e

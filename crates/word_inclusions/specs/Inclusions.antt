@@ -1,13 +1,16 @@
 -- Inclusions of regular expressions as a logic: what a step leaves to be shown, and along which pairs.
-use Rattle.std.specs.Prelude.{ℕ, suc, true, false, ◌&&◌, nat_lt, if◌then◌else◌, List, [], ◌∷◌, Option, Some, None, Result, Ok, Err}
+use Rattle.std.specs.Prelude.{ℕ, suc, true, false, ◌&&◌, nat_lt, if◌then◌else◌, List, [], ◌∷◌, Option, Some, None}
+use Rattle.std.specs.Prelude.{Result, Ok, Err}
 use Rattle.trace_pairs.specs.Graph.{Pair}
 use Rattle.logics.specs.declared.premises.Subgoal.{Subgoal}
 use Rattle.logics.specs.Logics.{LogicValue}
 use Rattle.word_inclusions.specs.declared.inclusion.Reason.{Reason}
 use Rattle.word_inclusions.specs.declared.inclusion.Reason.TheVariants.{Step, Link}
 use Rattle.word_inclusions.specs.declared.inclusion.WordFault.{WordFault}
-use Rattle.word_inclusions.specs.declared.inclusion.WordFault.TheVariants.{NoEmptyWord, LinkDiffers, PremiseCount, PremiseDiffers, NoSuchNode}
-use Rattle.word_inclusions.specs.Expressions.{Expression, Zero, One, Letter, Sum, Product, Star, nullable, derivative, Sides, sides, same_sides}
+use Rattle.word_inclusions.specs.declared.inclusion.WordFault.TheVariants.{NoEmptyWord, LinkDiffers, PremiseCount}
+use Rattle.word_inclusions.specs.declared.inclusion.WordFault.TheVariants.{PremiseDiffers, NoSuchNode}
+use Rattle.word_inclusions.specs.Expressions.{Expression, Zero, One, Letter, Sum, Product, Star, nullable, derivative}
+use Rattle.word_inclusions.specs.Expressions.{Sides, sides, same_sides}
 
 -- ---- positions: the left side is a list of factors, as `e . (f . k)` is; a position is the place of one that is a star
 
@@ -28,7 +31,8 @@ pair_at e old new others = others
 
 -- a pair for each star among factors, the first of which stood at old and stands at new
 abbrev pub pairs_from : Expression → ℕ → ℕ → List Pair
-pairs_from (Product e f) old new = if nat_lt old 32 && nat_lt new 32 then pair_at e old new (pairs_from f (suc old) (suc new)) else []
+pairs_from (Product e f) old new = if nat_lt old 32 && nat_lt new 32 then pair_at e old new
+    (pairs_from f (suc old) (suc new)) else []
 pairs_from e old new = if nat_lt old 32 && nat_lt new 32 then pair_at e old new [] else []
 
 -- ---- the step
@@ -56,7 +60,8 @@ unfolded One k r = without k r
 unfolded (Letter a) k r = without k (derivative a r)
 unfolded (Sum e f) k r = put_before e k r ∷ put_before f k r ∷ []
 unfolded (Product e f) k r = two_before e f k r (pairs_from k 1 2) ∷ []
-unfolded (Star e) k r = record { judgement = sides k r; pairs = pairs_from k 1 0 } ∷ two_before e (Star e) k r (kept_star k) ∷ []
+unfolded (Star e) k r = record { judgement = sides k r; pairs = pairs_from k 1 0 }
+    ∷ two_before e (Star e) k r (kept_star k) ∷ []
 
 -- where no factor is left, the right side has the empty word
 abbrev pub step : Expression → Expression → Result (List (Subgoal Sides)) WordFault
@@ -73,7 +78,8 @@ premises s (Link target) = Err NoSuchNode
 -- a link leads to a node that states the same
 abbrev pub pairs_back : Sides → Reason → Sides → Result (List Pair) WordFault
 pairs_back bud Step companion = Err NoSuchNode
-pairs_back bud (Link target) companion = if same_sides bud companion then Ok (pairs_from bud.left 0 0) else Err LinkDiffers
+pairs_back bud (Link target) companion = if same_sides bud companion then Ok (pairs_from bud.left 0 0)
+    else Err LinkDiffers
 
 abbrev pub target_of : Reason → Option ℕ
 target_of Step = None

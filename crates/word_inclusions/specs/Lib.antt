@@ -7,3 +7,7 @@ pub mod Places
 pub mod Derivatives
 pub mod LogicLaws
 pub mod Searches
+pub mod Grammar
+pub mod Reading
+pub mod Answers
+pub mod Tasks

@@ -1,13 +1,13 @@
 -- The search for a proof of an inclusion: what a goal is offered, and what is found.
 use Rattle.std.specs.Prelude.{ℕ, suc, ◌≡◌, List, [], ◌∷◌}
-use Rattle.derivation_search.specs.System.{System, Outcome, IsFound, IsNotFound, HasTooManyDerivations, HasTooManyStates}
+use Rattle.derivations.specs.System.{System, Outcome, IsFound, IsNotFound, HasTooManyDerivations, HasTooManyStates}
 use Rattle.buchi_inclusion.specs.Answers.{state_limit}
-use Rattle.tableaux.specs.Tableau.{Goal, Made, Calculus}
-use Rattle.tableaux.specs.Search.{system_of}
+use Rattle.derivations.specs.Tableau.{Goal, Made, Calculus}
+use Rattle.derivations.specs.Search.{system_of}
 use Rattle.derivations.specs.declared.derivation.Derivation.{Derivation}
 use Rattle.derivations.specs.Derivations.{IsInOrder}
-use Rattle.logic_tableaux.specs.Calculus.{calculus_with}
-use Rattle.logic_tableaux.specs.Found.{IsProof}
+use Rattle.derivations.specs.Calculus.{calculus_with}
+use Rattle.derivations.specs.Found.{IsProof}
 use Rattle.word_inclusions.specs.declared.inclusion.Reason.{Reason}
 use Rattle.word_inclusions.specs.declared.inclusion.Reason.TheVariants.{Step, Link}
 use Rattle.word_inclusions.specs.declared.search.WordSearch.{WordSearch}

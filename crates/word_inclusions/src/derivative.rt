@@ -3,7 +3,7 @@ ghost use Rattle.std.specs.Prelude.{◌≡◌, IfOk};
 ghost use Rattle.word_inclusions.specs.Expressions.{expression_of, followed_by, is_among, with, partials, derivative};
 
 use crate::expression::Regex;
-use cyc_memory::OutOfMemory;
+use cyc_basics::memory::OutOfMemory;
 use std::alloc::Global;
 
 impl Regex {

@@ -3,7 +3,7 @@ ghost use Rattle.std.specs.Prelude.{◌≡◌, IfOk};
 ghost use Rattle.word_inclusions.specs.Expressions as expressions;
 ghost use Rattle.word_inclusions.specs.Expressions.{expression_of, same, nullable};
 
-use cyc_memory::OutOfMemory;
+use cyc_basics::memory::OutOfMemory;
 use std::alloc::Global;
 
 /// A regular expression (Kleene 1956): no word, the empty word, a letter, a choice, one after the other, repetition.

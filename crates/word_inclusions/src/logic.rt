@@ -5,7 +5,7 @@ ghost use Rattle.word_inclusions.specs.Inclusions.{pairs_from};
 use crate::inclusion::{Inclusion, Reason, WordFault};
 use crate::places::{push_pairs, push_places};
 use crate::step::step;
-use cyc_memory::OutOfMemory;
+use cyc_basics::memory::OutOfMemory;
 use logics::{Logic, Refused, Subgoal, TracePairs};
 use std::alloc::Global;
 

@@ -4,7 +4,7 @@ ghost use Rattle.word_inclusions.specs.Expressions.{expression_of};
 ghost use Rattle.word_inclusions.specs.Inclusions.{at_star, star_places, pair_at, pairs_from};
 
 use crate::expression::Regex;
-use cyc_memory::OutOfMemory;
+use cyc_basics::memory::OutOfMemory;
 
 /// The places from which on no star is followed.
 const MOST_PLACES: u8 = 32;

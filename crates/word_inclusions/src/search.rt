@@ -1,22 +1,22 @@
 // The search for a proof of an inclusion.
 ghost use Rattle.std.specs.Prelude.{◌≡◌, ◌<◌, ◌≤◌, [], IfOk, length, map};
-ghost use Rattle.derivation_search.specs.System.{search_of};
+ghost use Rattle.derivations.specs.System.{search_of};
 ghost use Rattle.derivations.specs.Derivations.{reasons_in, tableau_in};
-ghost use Rattle.logic_tableaux.specs.Nodes.{proof_nodes};
-ghost use Rattle.tableaux.specs.Fair.{AllOccur};
+ghost use Rattle.derivations.specs.LogicNodes.{proof_nodes};
+ghost use Rattle.derivations.specs.Fair.{AllOccur};
 ghost use Rattle.word_inclusions.specs.Inclusions.{target_of};
 ghost use Rattle.word_inclusions.specs.Searches.{links_from, search_for, IsSearch, IsOutcome, IsProved};
 
 use crate::inclusion::{Inclusion, Reason};
 use crate::logic::WordInclusions;
-use cyc_memory::OutOfMemory;
-use derivation_search::{DERIVATION_LIMIT, Offers, Stop, search_depth};
+use cyc_basics::memory::OutOfMemory;
+use derivations::found::{effect_of, nodes_made};
+use derivations::search::{DERIVATION_LIMIT, Offers, Stop, search_depth};
+use derivations::tableaux::{MadeNode, OpenGoal, Rules};
 use derivations::{Derivation, Effect, Logic, Strategy};
-use logic_tableaux::{effect_of, nodes_made};
 use logics::ProofNode;
 use std::alloc::Global;
 use std::collections::VecDeque;
-use tableaux::{MadeNode, OpenGoal, Rules};
 
 /// The most nodes of a proof that is searched for.
 pub const MOST_NODES: u32 = 20_000;
@@ -125,8 +125,8 @@ fn proof_of(alloc: Global, moves: Moves) -> Result<Vec<ProofNode<Inclusion, Reas
     nodes_made(alloc, &WordInclusions, &graph, moves.made)
 }
 
-/// Searches for a proof of the goal at depth 1, 2, .. up to `depth`, by iterative deepening (Korf 1985). What is found is a
-/// correct proof, so that a check accepts it, and the goal is an inclusion.
+/// Searches for a proof of the goal at depth 1, 2, .. up to `depth`, by iterative deepening (Korf 1985). What is found
+/// is a correct proof, so that a check accepts it, and the goal is an inclusion.
 pub fn prove(alloc: Global, goal: &Inclusion, depth: u32) -> Result<Proved, OutOfMemory>
     requires { depth < 4294967295 }
     ensures outcome { IfOk result (λ p. IsOutcome p (search_of (search_for goal.now) DERIVATION_LIMIT depth)) }

@@ -3,12 +3,13 @@ ghost use Rattle.std.specs.Prelude.{◌≡◌, IfOk, List, Ok};
 ghost use Rattle.logics.specs.declared.premises.Subgoal.{Subgoal};
 ghost use Rattle.logics.specs.Answers.{IsPremises};
 ghost use Rattle.word_inclusions.specs.Expressions.{expression_of, Sides};
-ghost use Rattle.word_inclusions.specs.Inclusions.{pairs_from, kept_star, without, put_before, two_before, unfolded, step as step_of};
+ghost use Rattle.word_inclusions.specs.Inclusions.{pairs_from, kept_star, without, put_before, two_before, unfolded};
+ghost use Rattle.word_inclusions.specs.Inclusions.{step as step_of};
 
 use crate::expression::Regex;
 use crate::inclusion::{Inclusion, WordFault};
 use crate::places::push_pairs;
-use cyc_memory::OutOfMemory;
+use cyc_basics::memory::OutOfMemory;
 use logics::{Refused, Subgoal, TracePairs};
 use std::alloc::Global;
 

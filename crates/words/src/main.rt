@@ -1,9 +1,10 @@
-//! Reads the command line, standard input and standard output, and does the work of `word_texts::run_program`.
+//! Reads the command line, standard input and standard output, and does the work of
+//! `word_inclusions::texts::run_program`.
 #![tactic(auto)]
 
 use cyc_io::{StdSink, StdSource, command_words};
 use std::process::ExitCode;
-use word_texts::run_program;
+use word_inclusions::texts::run_program;
 
 fn main(rt: HostRuntime) -> ExitCode {
     let mut src = StdSource::new(rt.stdin());

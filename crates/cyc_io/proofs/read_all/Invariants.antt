@@ -7,7 +7,7 @@ abbrev pub invariant-loop-chunk : goal.invariant-loop-chunk
 invariant-loop-chunk g l = record {
   within : length l.bytes.items ≤ l.limit + 1;
   came : Consumes (g.S.Source.left l.fn.src) (g.S.Source.left l.src) l.bytes.items;
-  calm : g.S.Source.faults l.src ≡ g.S.Source.faults l.fn.src;
+  no_faults : g.S.Source.faults l.src ≡ g.S.Source.faults l.fn.src;
 }
 
 -- Each turn but the last takes a byte.

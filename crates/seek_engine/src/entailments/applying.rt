@@ -1,16 +1,17 @@
 // A companion as a lemma: what it entails comes in the place of atoms that its antecedent covers.
 use crate::entailments::matching::{Matcher, Matching, value_of};
-use crate::entailments::offers::{Offers, companions, only};
+use crate::entailments::offers::{MoveOffers, companions, only};
 use crate::entailments::sequents::Sequent;
 use crate::{Aim, Draft, Move};
-use cyc_memory::OutOfMemory;
+use cyc_basics::memory::OutOfMemory;
 use heap_formula::{
     Heap, Judgement, Positions, Pure, Rule, Spatial, Subst, Term, apply_to_heap, apply_to_pure,
 };
 use rule_table::follows;
 use seek_shapes::{address, arguments};
 
-/// Adds terms for variables that only the companion's succedent has: those by which its atoms become atoms of the goal's.
+/// Adds terms for variables that only the companion's succedent has: those by which its atoms become atoms of the
+/// goal's.
 fn complete(
     matcher: &Matcher<'_>,
     pairs: &mut Vec<(u16, Term)>,
@@ -125,7 +126,7 @@ fn has_cut(moves: &[Move], places: &[u32], formula: &Heap) -> bool {
 
 /// The Cut of atoms by a formula that a companion gives, unless it is idle or offered already.
 fn push_cut(
-    offers: &mut Offers,
+    offers: &mut MoveOffers,
     sequent: &Sequent<'_>,
     companion: u32,
     places: &[Option<u32>],
@@ -145,7 +146,7 @@ fn push_cut(
 
 /// The Cut by what a companion's succedent says here under a map of its antecedent, if the map has terms for all of it.
 fn push_application(
-    offers: &mut Offers,
+    offers: &mut MoveOffers,
     sequent: &Sequent<'_>,
     matcher: &Matcher<'_>,
     companion: u32,
@@ -167,7 +168,12 @@ fn push_application(
     }
 }
 
-fn push_applications_of(offers: &mut Offers, sequent: &Sequent<'_>, draft: &Draft, companion: u32) {
+fn push_applications_of(
+    offers: &mut MoveOffers,
+    sequent: &Sequent<'_>,
+    draft: &Draft,
+    companion: u32,
+) {
     let matcher = Matcher {
         alloc: sequent.setting.alloc,
         fixed_below: 0,
@@ -194,7 +200,7 @@ fn push_applications_of(offers: &mut Offers, sequent: &Sequent<'_>, draft: &Draf
 
 /// Cut by what each companion entails, the latest first; the atoms that its antecedent covers are cut away, and a link
 /// proves that they entail it.
-pub fn push_applications(offers: &mut Offers, sequent: &Sequent<'_>, draft: &Draft) {
+pub fn push_applications(offers: &mut MoveOffers, sequent: &Sequent<'_>, draft: &Draft) {
     if sequent.fuel == 0 {
         return;
     }

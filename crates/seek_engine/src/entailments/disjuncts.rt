@@ -1,11 +1,11 @@
 // Moves at an entailment of several disjuncts.
 use crate::Aim;
-use crate::entailments::offers::Offers;
+use crate::entailments::offers::MoveOffers;
 use crate::entailments::unfolding::push_unfolds;
 use heap_formula::{Heap, Pure, Rule};
 use rule_table::{has_pure, is_universal_pure};
 
-fn push_chooses(offers: &mut Offers, count: usize, fuel: u32) {
+fn push_chooses(offers: &mut MoveOffers, count: usize, fuel: u32) {
     let mut k: u32 = 0;
     for _ in 0..count {
         offers.push_rule(Rule::Choose(k), Aim::Entail(fuel));
@@ -22,7 +22,7 @@ fn is_undecided(left: &Heap, atom: Pure) -> bool {
         && !has_pure(left.pure(), Pure::Neq(t, u))
 }
 
-fn push_splits_of(offers: &mut Offers, left: &Heap, atoms: &[Pure], aim: Aim) {
+fn push_splits_of(offers: &mut MoveOffers, left: &Heap, atoms: &[Pure], aim: Aim) {
     for atom in atoms {
         let (Pure::Eq(t, u) | Pure::Neq(t, u)) = *atom;
         if is_undecided(left, *atom) {
@@ -31,7 +31,7 @@ fn push_splits_of(offers: &mut Offers, left: &Heap, atoms: &[Pure], aim: Aim) {
     }
 }
 
-fn push_splits(offers: &mut Offers, left: &Heap, heaps: &[Heap], fuel: u32) {
+fn push_splits(offers: &mut MoveOffers, left: &Heap, heaps: &[Heap], fuel: u32) {
     if fuel == 0 {
         return;
     }
@@ -41,7 +41,7 @@ fn push_splits(offers: &mut Offers, left: &Heap, heaps: &[Heap], fuel: u32) {
 }
 
 /// Each disjunct; then Split on what they leave open; then Unfold.
-pub fn disjunct_stage(offers: &mut Offers, left: &Heap, heaps: &[Heap], fuel: u32, stage: u32) {
+pub fn disjunct_stage(offers: &mut MoveOffers, left: &Heap, heaps: &[Heap], fuel: u32, stage: u32) {
     match stage {
         1 => push_chooses(offers, heaps.len(), fuel),
         2 => push_splits(offers, left, heaps, fuel),

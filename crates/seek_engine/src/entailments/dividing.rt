@@ -1,7 +1,7 @@
 // One atom of the antecedent for one predicate of the succedent, and the rest for the rest.
-use crate::entailments::offers::{Offers, only};
+use crate::entailments::offers::{MoveOffers, only};
 use crate::entailments::sequents::Sequent;
-use cyc_memory::OutOfMemory;
+use cyc_basics::memory::OutOfMemory;
 use heap_formula::{Heap, Positions, Rule, Spatial};
 use rule_table::is_universal_spatial;
 use seek_shapes::shares_variable;
@@ -27,7 +27,7 @@ fn cut_and_frame(
     Ok(rules)
 }
 
-fn push_divisions_for(offers: &mut Offers, sequent: &Sequent<'_>, k: u32, wanted: &Spatial) {
+fn push_divisions_for(offers: &mut MoveOffers, sequent: &Sequent<'_>, k: u32, wanted: &Spatial) {
     let left = sequent.left.spatial();
     let last = (left.len() as u32).saturating_sub(1);
     for (i, atom) in left.iter().enumerate() {
@@ -39,7 +39,7 @@ fn push_divisions_for(offers: &mut Offers, sequent: &Sequent<'_>, k: u32, wanted
 }
 
 /// Cut of one atom of the antecedent by one of the succedent that shares a term with it, which is then framed.
-pub fn push_divisions(offers: &mut Offers, sequent: &Sequent<'_>) {
+pub fn push_divisions(offers: &mut MoveOffers, sequent: &Sequent<'_>) {
     let (left, right) = (sequent.left.spatial(), sequent.right.spatial());
     if sequent.fuel == 0 || left.len() < 2 || right.len() < 2 {
         return;

@@ -1,8 +1,8 @@
 // Moves that lose nothing, so that no others are offered beside them.
-use crate::entailments::offers::{Offers, companions};
+use crate::entailments::offers::{MoveOffers, companions};
 use crate::entailments::sequents::Sequent;
 use crate::{Aim, Draft, Move, Setting};
-use cyc_memory::OutOfMemory;
+use cyc_basics::memory::OutOfMemory;
 use heap_formula::{Heap, Judgement, Pure, Rule, Side, Spatial, Term};
 use rule_table::{equated, follows, is_universal_pure};
 use seek_shapes::{first_existential, unifies};
@@ -31,7 +31,7 @@ pub fn first_equation(heap: &Heap) -> Option<Rule> {
     None
 }
 
-fn push_done_and_links(offers: &mut Offers, draft: &Draft, aim: Aim) {
+fn push_done_and_links(offers: &mut MoveOffers, draft: &Draft, aim: Aim) {
     offers.push_rule(Rule::Done, aim);
     let Ok(numbers) = companions(offers.alloc, draft) else {
         return offers.lack_memory();
@@ -43,14 +43,14 @@ fn push_done_and_links(offers: &mut Offers, draft: &Draft, aim: Aim) {
 
 /// Absurd, Rewrite by the first equation; else Done and links.
 pub fn first_stage(
-    offers: &mut Offers,
+    offers: &mut MoveOffers,
     setting: &Setting<'_>,
     draft: &Draft,
     judgement: &Judgement,
     left: &Heap,
     aim: Aim,
 ) {
-    match setting.goes(judgement, &Rule::Absurd) {
+    match setting.is_applicable(judgement, &Rule::Absurd) {
         Ok(true) => offers.push_alone(Rule::Absurd, aim),
         Ok(false) => match first_equation(left) {
             Some(rule) => offers.push_alone(rule, aim),

@@ -1,5 +1,5 @@
 // Maps of atoms into atoms under one substitution.
-use cyc_memory::OutOfMemory;
+use cyc_basics::memory::OutOfMemory;
 use heap_formula::{Pure, Spatial, Term};
 use rule_table::equated;
 use seek_shapes::{address, arguments, is_alike};
@@ -8,8 +8,8 @@ use std::alloc::Global;
 /// The greatest number of maps that are kept.
 const MOST_MATCHINGS: usize = 64;
 
-/// How atoms are mapped: universal variables below `fixed_below` stay, as does all that is no universal variable; terms are
-/// compared up to equations; and so many predicate atoms may stay without a place.
+/// How atoms are mapped: universal variables below `fixed_below` stay, as does all that is no universal variable; terms
+/// are compared up to equations; and so many predicate atoms may stay without a place.
 #[derive(Clone, Copy)]
 pub struct Matcher<'a> {
     pub alloc: Global,
@@ -186,7 +186,8 @@ impl Matcher<'_> {
         Ok(longer)
     }
 
-    /// The maps of the first atoms into the others, each to a place of its own, where no more than 64 are kept at a time.
+    /// The maps of the first atoms into the others, each to a place of its own, where no more than 64 are kept at a
+    /// time.
     pub fn matchings(
         &self,
         atoms: &[Spatial],

@@ -1,5 +1,5 @@
-//! The moves of a free search at an entailment: those of the rules, and Cut by what a companion says (an application of a
-//! lemma, as in Brotherston, Distefano and Petersen 2011) or by a part of the succedent.
+//! The moves of a free search at an entailment: those of the rules, and Cut by what a companion says (an application of
+//! a lemma, as in Brotherston, Distefano and Petersen 2011) or by a part of the succedent.
 
 mod applying;
 mod disjuncts;

@@ -1,6 +1,6 @@
 // Stages of moves.
 use crate::{Aim, Draft, Move, Stage, Step};
-use cyc_memory::OutOfMemory;
+use cyc_basics::memory::OutOfMemory;
 use heap_formula::Rule;
 use std::alloc::Global;
 
@@ -62,19 +62,20 @@ pub fn deepening(alloc: Global, most: u32, stage: u32) -> Result<Stage, OutOfMem
     stage_with(alloc, Move::Turn(Aim::Entail(stage)), stage >= most)
 }
 
-/// Moves that are being offered. Where memory is refused for one of them, the others go on, and in the end there is no stage.
+/// Moves that are being offered. Where memory is refused for one of them, the others go on, and in the end there is no
+/// stage.
 #[derive(Drop)]
-pub struct Offers {
+pub struct MoveOffers {
     pub alloc: Global,
     pub moves: Vec<Move>,
     pub is_last: bool,
     lacks_memory: bool,
 }
 
-impl Offers {
+impl MoveOffers {
     /// No moves yet, and not the last.
-    pub fn new(alloc: Global) -> Offers {
-        Offers {
+    pub fn new(alloc: Global) -> MoveOffers {
+        MoveOffers {
             alloc,
             moves: Vec::new(alloc),
             is_last: false,

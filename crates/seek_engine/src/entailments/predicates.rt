@@ -1,5 +1,5 @@
 // Cells and predicates of the succedent.
-use crate::entailments::offers::Offers;
+use crate::entailments::offers::MoveOffers;
 use crate::entailments::sequents::Sequent;
 use crate::{Aim, Move};
 use heap_formula::{Args, Heap, Pure, Rule, Spatial, Term, exists_in_heap};
@@ -7,7 +7,7 @@ use rule_table::{Change, changed_heap, is_universal, is_universal_pure};
 use seek_shapes::{address, arguments, first_existential, unifies};
 
 /// Frame of one atom with each that is equal.
-fn push_frames_of(offers: &mut Offers, sequent: &Sequent<'_>, i: u32, atom: &Spatial) {
+fn push_frames_of(offers: &mut MoveOffers, sequent: &Sequent<'_>, i: u32, atom: &Spatial) {
     for (k, wanted) in sequent.right.spatial().iter().enumerate() {
         if *atom == *wanted {
             offers.push_rule(Rule::Frame(i, k as u32), sequent.same());
@@ -16,7 +16,7 @@ fn push_frames_of(offers: &mut Offers, sequent: &Sequent<'_>, i: u32, atom: &Spa
 }
 
 /// Frame of equal atoms: cells, or predicates.
-pub fn push_frames(offers: &mut Offers, sequent: &Sequent<'_>, of_cells: bool) {
+pub fn push_frames(offers: &mut MoveOffers, sequent: &Sequent<'_>, of_cells: bool) {
     for (i, atom) in sequent.left.spatial().iter().enumerate() {
         if matches!(atom, Spatial::Cell(_, _)) == of_cells {
             push_frames_of(offers, sequent, i as u32, atom);
@@ -36,7 +36,12 @@ pub fn wanted_address(sequent: &Sequent<'_>) -> Option<Term> {
     None
 }
 
-fn push_addresses_for(offers: &mut Offers, sequent: &Sequent<'_>, variable: u16, wanted: &[Term]) {
+fn push_addresses_for(
+    offers: &mut MoveOffers,
+    sequent: &Sequent<'_>,
+    variable: u16,
+    wanted: &[Term],
+) {
     for atom in sequent.left.spatial() {
         if let Spatial::Cell(term, fields) = atom {
             if unifies(fields.as_slice(), wanted) {
@@ -47,7 +52,7 @@ fn push_addresses_for(offers: &mut Offers, sequent: &Sequent<'_>, variable: u16,
 }
 
 /// For a cell whose address is an existential: the address of each cell whose fields agree.
-pub fn push_addresses(offers: &mut Offers, sequent: &Sequent<'_>) {
+pub fn push_addresses(offers: &mut MoveOffers, sequent: &Sequent<'_>) {
     for wanted in sequent.right.spatial() {
         if let Spatial::Cell(Term::Exist(variable), fields) = wanted {
             push_addresses_for(offers, sequent, *variable, fields.as_slice());
@@ -111,7 +116,7 @@ fn is_instantiated(moves: &[Move], variable: u16, term: Term) -> bool {
 }
 
 /// The same by each such atom, each once.
-fn push_instances(offers: &mut Offers, sequent: &Sequent<'_>, wanted: &Spatial) {
+fn push_instances(offers: &mut MoveOffers, sequent: &Sequent<'_>, wanted: &Spatial) {
     for atom in sequent.left.spatial() {
         if let Some((variable, term)) = instance(atom, wanted) {
             if !is_instantiated(&offers.moves, variable, term) {
@@ -164,8 +169,8 @@ fn has_cells_for(sequent: &Sequent<'_>, body: &Heap) -> bool {
     !has_cell(body) || wanted <= cell_count(sequent.left)
 }
 
-/// What a case's body costs on the right, if it may be tried: each cell needs a partner, and no pure atom is false on sight.
-/// One without a cell but with predicates costs one.
+/// What a case's body costs on the right, if it may be tried: each cell needs a partner, and no pure atom is false on
+/// sight. One without a cell but with predicates costs one.
 fn cost_of_body(left: &Heap, body: &Heap) -> Option<u32> {
     for atom in body.spatial() {
         if !has_partner(left, atom) {
@@ -182,7 +187,14 @@ fn cost_of_body(left: &Heap, body: &Heap) -> Option<u32> {
 }
 
 /// The move by which a case comes on the right, if it may be tried.
-fn push_case(offers: &mut Offers, sequent: &Sequent<'_>, k: u32, c: u32, case: &Heap, args: &Args) {
+fn push_case(
+    offers: &mut MoveOffers,
+    sequent: &Sequent<'_>,
+    k: u32,
+    c: u32,
+    case: &Heap,
+    args: &Args,
+) {
     let change = Change::Right(*args, exists_in_heap(sequent.right));
     let Ok(body) = changed_heap(offers.alloc, &change, case) else {
         return offers.lack_memory();
@@ -196,7 +208,7 @@ fn push_case(offers: &mut Offers, sequent: &Sequent<'_>, k: u32, c: u32, case: &
 
 /// The cases of a predicate atom that may be tried, those with cells or those without.
 fn push_cases(
-    offers: &mut Offers,
+    offers: &mut MoveOffers,
     sequent: &Sequent<'_>,
     k: u32,
     predicate: u16,
@@ -212,9 +224,9 @@ fn push_cases(
     }
 }
 
-/// The instances of a predicate atom, then its cases, those with cells first; of the first predicate atom of the succedent
-/// that has any, where there are no moves yet.
-pub fn push_predicate_moves(offers: &mut Offers, sequent: &Sequent<'_>) {
+/// The instances of a predicate atom, then its cases, those with cells first; of the first predicate atom of the
+/// succedent that has any, where there are no moves yet.
+pub fn push_predicate_moves(offers: &mut MoveOffers, sequent: &Sequent<'_>) {
     for (k, wanted) in sequent.right.spatial().iter().enumerate() {
         if let Spatial::Pred(predicate, args) = wanted {
             push_instances(offers, sequent, wanted);

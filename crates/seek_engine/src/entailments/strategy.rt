@@ -3,7 +3,7 @@ use crate::entailments::applying::push_applications;
 use crate::entailments::disjuncts::disjunct_stage;
 use crate::entailments::dividing::push_divisions;
 use crate::entailments::forced::{Sight, first_stage, look_at};
-use crate::entailments::offers::{Offers, deepening, no_moves, one_move};
+use crate::entailments::offers::{MoveOffers, deepening, no_moves, one_move};
 use crate::entailments::predicates::{
     is_all_cells, push_addresses, push_frames, push_predicate_moves, wanted_address,
     wanted_disequation,
@@ -11,7 +11,7 @@ use crate::entailments::predicates::{
 use crate::entailments::sequents::Sequent;
 use crate::entailments::unfolding::push_unfolds;
 use crate::{Aim, Draft, Move, Setting, Stage, Strategy};
-use cyc_memory::OutOfMemory;
+use cyc_basics::memory::OutOfMemory;
 use heap_formula::{Heap, Judgement, Pure, Rule};
 use pred_defs::Defs;
 
@@ -74,7 +74,7 @@ impl<'a> Entailments<'a> {
         }
     }
 
-    fn forced(&self, offers: &mut Offers, sequent: &Sequent<'_>) {
+    fn forced(&self, offers: &mut MoveOffers, sequent: &Sequent<'_>) {
         match look_at(sequent, self.is_shy) {
             Sight::Go(rule) => offers.push_alone(rule, sequent.same()),
             Sight::Dead => offers.is_last = true,
@@ -86,7 +86,7 @@ impl<'a> Entailments<'a> {
     /// The moves at one disjunct.
     fn single_stage(
         &self,
-        offers: &mut Offers,
+        offers: &mut MoveOffers,
         sequent: &Sequent<'_>,
         draft: &Draft,
         heaps: &[Heap],
@@ -109,7 +109,7 @@ impl<'a> Entailments<'a> {
     /// Offers the moves of a stage, and says so if no others come after them.
     fn offer(
         &self,
-        offers: &mut Offers,
+        offers: &mut MoveOffers,
         draft: &Draft,
         judgement: &Judgement,
         fuel: u32,
@@ -146,21 +146,21 @@ impl<'a> Entailments<'a> {
         fuel: u32,
         stage: u32,
     ) -> Result<Stage, OutOfMemory> {
-        let mut offers = Offers::new(self.setting.alloc);
+        let mut offers = MoveOffers::new(self.setting.alloc);
         self.offer(&mut offers, draft, judgement, fuel, stage);
         offers.into_stage()
     }
 }
 
 /// A cell of the succedent without a partner, if there is one; else cells whose addresses are existentials.
-fn push_for_cells(offers: &mut Offers, sequent: &Sequent<'_>, heaps: &[Heap]) {
+fn push_for_cells(offers: &mut MoveOffers, sequent: &Sequent<'_>, heaps: &[Heap]) {
     match wanted_address(sequent) {
         None => push_addresses(offers, sequent),
         address => push_unfolds(offers, sequent.left, heaps, address, sequent.fuel),
     }
 }
 
-fn push_split(offers: &mut Offers, sequent: &Sequent<'_>, heaps: &[Heap]) {
+fn push_split(offers: &mut MoveOffers, sequent: &Sequent<'_>, heaps: &[Heap]) {
     let Some((t, u)) = wanted_disequation(sequent.right) else {
         return;
     };
@@ -171,7 +171,7 @@ fn push_split(offers: &mut Offers, sequent: &Sequent<'_>, heaps: &[Heap]) {
 }
 
 /// Without spatial atoms on the right cells of the left stay for ever.
-fn push_without_atoms(offers: &mut Offers, sequent: &Sequent<'_>, heaps: &[Heap]) {
+fn push_without_atoms(offers: &mut MoveOffers, sequent: &Sequent<'_>, heaps: &[Heap]) {
     if !sequent.right.spatial().is_empty() {
         return;
     }

@@ -1,7 +1,7 @@
 // Unfolding on the left.
 use crate::Aim;
-use crate::entailments::offers::Offers;
-use cyc_memory::OutOfMemory;
+use crate::entailments::offers::MoveOffers;
+use cyc_basics::memory::OutOfMemory;
 use heap_formula::{Heap, Rule, Spatial, Term};
 use seek_shapes::{mentions, shared_terms};
 use std::alloc::Global;
@@ -47,10 +47,10 @@ fn bare_unfold(alloc: Global, left: &Heap, k: u32) -> Result<Vec<Rule>, OutOfMem
     Ok(rules)
 }
 
-/// Offers Unfold of each predicate atom, or of those in which a term stands, each also without the pure atoms if there are any;
-/// and nothing after them.
+/// Offers Unfold of each predicate atom, or of those in which a term stands, each also without the pure atoms if there
+/// are any; and nothing after them.
 pub fn push_unfolds(
-    offers: &mut Offers,
+    offers: &mut MoveOffers,
     left: &Heap,
     right: &[Heap],
     wanted: Option<Term>,

@@ -1,7 +1,7 @@
 // Whether a part of a state entails an atom, by a short search of its own.
 use crate::folds::fingerprints::fingerprint;
 use crate::folds::parts::{heap_of_atom, part_of};
-use cyc_memory::OutOfMemory;
+use cyc_basics::memory::OutOfMemory;
 use heap_formula::{Atom, Disjuncts, Heap, Judgement, Subst, Term, apply_to_heap};
 use seek_engine::{Aim, Draft, Entailments, Outcome, search, terms_of, value_of};
 use std::alloc::Global;
@@ -17,7 +17,7 @@ const MOST_KNOWN: usize = 8192;
 
 /// The answer of a short search.
 #[derive(Drop)]
-struct Known {
+struct KnownTerms {
     fingerprint: u32,
     judgement: Judgement,
     is_found: bool,
@@ -26,7 +26,7 @@ struct Known {
 /// The answers of short searches, and what they have cost since the cost was last asked for.
 #[derive(Drop)]
 pub struct Fitting {
-    known: Vec<Known>,
+    known: Vec<KnownTerms>,
     asked: u32,
     cost: u32,
 }
@@ -100,7 +100,8 @@ impl Fitting {
         }
     }
 
-    /// The cost since this was last asked, which is in steps: one for four of a short search, and for sixteen questions.
+    /// The cost since this was last asked, which is in steps: one for four of a short search, and for sixteen
+    /// questions.
     pub fn take_cost(&mut self) -> u32 {
         let cost = self.cost;
         self.cost = 0;
@@ -127,7 +128,7 @@ impl Fitting {
         is_found: bool,
     ) -> Result<(), OutOfMemory> {
         if self.known.len() < MOST_KNOWN {
-            self.known.push(Known {
+            self.known.push(KnownTerms {
                 fingerprint,
                 judgement: judgement.clone()?,
                 is_found,
@@ -152,7 +153,8 @@ impl Fitting {
         Ok(outcome.is_found)
     }
 
-    /// Whether the state's pure atoms and its spatial atoms at the places entail the atom, as far as a short search tells.
+    /// Whether the state's pure atoms and its spatial atoms at the places entail the atom, as far as a short search
+    /// tells.
     pub fn fits(
         &mut self,
         strategy: &Entailments<'_>,

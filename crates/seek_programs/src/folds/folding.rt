@@ -4,7 +4,7 @@ use crate::folds::parts::{cut_rule, heap_of_atom};
 use crate::folds::places::{Places, subsets};
 use crate::folds::pures::missing_pure;
 use crate::runs::push_rule;
-use cyc_memory::OutOfMemory;
+use cyc_basics::memory::OutOfMemory;
 use heap_formula::{Atom, Heap, Judgement, Pure, Spatial, Subst, Term, apply_to_spatial};
 use rule_table::antecedent;
 use seek_engine::{
@@ -74,8 +74,8 @@ fn push_pure_moves(
     Ok(())
 }
 
-/// An atom of the companion with the map's terms, and existentials for variables that have none; nothing, where every atom is
-/// to be covered and there is such a variable.
+/// An atom of the companion with the map's terms, and existentials for variables that have none; nothing, where every
+/// atom is to be covered and there is such a variable.
 fn image_of(
     cover: &Cover<'_>,
     matching: &Matching,
@@ -130,7 +130,8 @@ fn is_idle(goal: &Heap, places: &[u32], missing: &Spatial) -> bool {
     }
 }
 
-/// The sets of free places whose atoms may be folded: all of them, where every atom is to be covered by the one that is missing.
+/// The sets of free places whose atoms may be folded: all of them, where every atom is to be covered by the one that is
+/// missing.
 fn choices(cover: &Cover<'_>, matching: &Matching) -> Result<Vec<Places>, OutOfMemory> {
     let free = free_places(cover, matching);
     let takes_all = cover.is_whole && matching.skipped == 1;
@@ -162,8 +163,8 @@ fn push_folds(
     Ok(())
 }
 
-/// Adds the folds of atoms into those that the companion has and the goal has not. Of the maps of the companion's atoms, those
-/// that leave the fewest out come first.
+/// Adds the folds of atoms into those that the companion has and the goal has not. Of the maps of the companion's
+/// atoms, those that leave the fewest out come first.
 fn push_all_folds(
     moves: &mut Vec<Move>,
     strategy: &Entailments<'_>,
@@ -184,8 +185,8 @@ fn push_all_folds(
     Ok(())
 }
 
-/// Adds the folds after which a link to the companion may cover the node: the moves that make a pure atom that the companion
-/// asks for; where there is none, the folds. `folds` is how many are left, this one counted.
+/// Adds the folds after which a link to the companion may cover the node: the moves that make a pure atom that the
+/// companion asks for; where there is none, the folds. `folds` is how many are left, this one counted.
 pub fn push_covers(
     moves: &mut Vec<Move>,
     strategy: &Entailments<'_>,

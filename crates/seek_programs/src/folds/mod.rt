@@ -1,6 +1,6 @@
-//! Folding atoms of a goal, so that a link to a companion covers it: the atom that is missing comes in by Cut, from other
-//! atoms that entail it (as in Brotherston, Gorogiannis and Petersen 2012, where a case is folded; here any short proof
-//! serves).
+//! Folding atoms of a goal, so that a link to a companion covers it: the atom that is missing comes in by Cut, from
+//! other atoms that entail it (as in Brotherston, Gorogiannis and Petersen 2012, where a case is folded; here any short
+//! proof serves).
 
 mod fingerprints;
 mod fitting;

@@ -1,5 +1,5 @@
 // Heaps of some atoms of a state, and Cuts by heaps.
-use cyc_memory::OutOfMemory;
+use cyc_basics::memory::OutOfMemory;
 use heap_formula::{Atom, Heap, HeapFault, Positions, Pure, Rule, Spatial};
 use std::alloc::Global;
 

@@ -1,5 +1,5 @@
 // Sets of places.
-use cyc_memory::OutOfMemory;
+use cyc_basics::memory::OutOfMemory;
 use std::alloc::Global;
 
 /// At most eight places.

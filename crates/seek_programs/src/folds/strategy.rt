@@ -1,7 +1,7 @@
 // The moves at an entailment, with folds to companions.
 use crate::folds::fitting::Fitting;
 use crate::folds::folding::push_covers;
-use cyc_memory::OutOfMemory;
+use cyc_basics::memory::OutOfMemory;
 use heap_formula::Judgement;
 use seek_engine::{
     Aim, Draft, Entailments, LAST_STAGE, Move, Setting, Stage, Strategy, companions, stage_of,

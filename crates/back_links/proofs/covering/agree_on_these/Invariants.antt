@@ -4,4 +4,5 @@ use Rattle.rule_table.specs.LinkTable.{counts_agree}
 use Rattle.back_links.proofs.covering.agree_on_these.Given as goal
 
 abbrev pub invariant-loop-z : goal.invariant-loop-z
-invariant-loop-z l = counts_agree l.xs (map (apply_spatial l.subst) l.ys) (drop l.z-index l.xs) ≡ counts_agree l.xs (map (apply_spatial l.subst) l.ys) l.xs
+invariant-loop-z l = counts_agree l.xs (map (apply_spatial l.subst) l.ys) (drop l.z-index l.xs)
+    ≡ counts_agree l.xs (map (apply_spatial l.subst) l.ys) l.xs

@@ -7,7 +7,18 @@ use Rattle.back_links.proofs.listing.+choose_places.Given as goal
 
 abbrev pub invariant-loop-m : goal.invariant-loop-m
 invariant-loop-m l =
-    (take l.search.most (l.found.items ++ flat_map (λ m. by_places l.search.bud.now l.search.companion.now l.search.target l.search.variables l.search.values.now l.search.sources.now (l.initial.made.items ++ m ∷ []) (number_choices (antecedent l.search.bud.now).spatial (drop 1 l.rest))) (range_with_len l.m (length ((antecedent l.search.bud.now).spatial) - l.m))) ≡ take l.search.most (l.initial.found.items ++ flat_map (λ m. by_places l.search.bud.now l.search.companion.now l.search.target l.search.variables l.search.values.now l.search.sources.now (l.initial.made.items ++ m ∷ []) (number_choices (antecedent l.search.bud.now).spatial (drop 1 l.rest))) (range_with_len 0 (length ((antecedent l.search.bud.now).spatial)))))
+    (take l.search.most
+    (l.found.items
+    ++ flat_map
+    (λ m. by_places l.search.bud.now l.search.companion.now l.search.target l.search.variables l.search.values.now
+    l.search.sources.now (l.initial.made.items ++ m ∷ [])
+    (number_choices (antecedent l.search.bud.now).spatial (drop 1 l.rest)))
+    (range_with_len l.m (length ((antecedent l.search.bud.now).spatial) - l.m)))
+    ≡ take l.search.most (l.initial.found.items ++ flat_map
+    (λ m. by_places l.search.bud.now l.search.companion.now l.search.target l.search.variables l.search.values.now
+    l.search.sources.now (l.initial.made.items ++ m ∷ [])
+    (number_choices (antecedent l.search.bud.now).spatial (drop 1 l.rest)))
+    (range_with_len 0 (length ((antecedent l.search.bud.now).spatial)))))
     × (length l.found.items ≤ l.search.most)
     × (l.made.items ≡ l.initial.made.items)
 

@@ -8,5 +8,7 @@ use Rattle.back_links.proofs.matching.pure_fault.Goals as goal
 
 pub loop-k-preserved : goal.loop-k-preserved
 loop-k-preserved c =
-    let t = ap (λ (y : Pure). follows c.args.pures.now y) (sym c.apply_to_pure.ensures) ∙ sym c.follows.ensures ∙ c.if-not-follows.false in
-    pure_step c.args.pures.now c.args.subst.now c.args.atoms.now c.loop-k.k (Eq Nil Nil) c.loop-k-test.true t ∙ c.loop-k.invariant
+    let t = ap (λ (y : Pure). follows c.args.pures.now y) (sym c.apply_to_pure.ensures) ∙ sym c.follows.ensures
+    ∙ c.if-not-follows.false in
+    pure_step c.args.pures.now c.args.subst.now c.args.atoms.now c.loop-k.k (Eq Nil Nil) c.loop-k-test.true t
+    ∙ c.loop-k.invariant

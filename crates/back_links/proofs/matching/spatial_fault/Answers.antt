@@ -12,11 +12,18 @@ loop-k-preserved c =
     let k = c.loop-k.k in
     let ms = c.args.entries.now in
     let in_ms : k < length ms = c.if-k-entries.false in
-    let t = ap (λ (y : Spatial). not (has_number (take k ms) (get_or ms k 0)) && matches_some c.args.pures.now y (slice_get c.args.atoms.now (get_or ms k 0))) (sym c.apply_to_spatial.ensures) ∙ sym c.entry_fits.ensures ∙ c.if-not-entry_fits.false in
-    (spatial_step c.args.pures.now c.args.atoms.now c.args.whole c.args.subst.now ms c.args.xs.now k c.index-xs-k.result in_ms c.loop-k-test.true (sym c.index-xs-k.is) t ∙ c.loop-k.invariant.0, omega arith)
+    let t = ap (λ (y : Spatial). not (has_number (take k ms) (get_or ms k 0)) && matches_some c.args.pures.now y
+    (slice_get c.args.atoms.now (get_or ms k 0))) (sym c.apply_to_spatial.ensures) ∙ sym c.entry_fits.ensures
+    ∙ c.if-not-entry_fits.false in (
+      spatial_step c.args.pures.now c.args.atoms.now c.args.whole c.args.subst.now ms c.args.xs.now k c.index-xs-k.result
+          in_ms c.loop-k-test.true (sym c.index-xs-k.is) t ∙ c.loop-k.invariant.0,
+      omega arith,
+    )
 
 pub returns-then-entries-xs : goal.returns-then-entries-xs
 returns-then-entries-xs c =
     let same : c.loop-k.k ≡ length c.args.xs.now = omega arith in
     let more : c.loop-k.k < length c.args.entries.now = omega arith in
-    ap (λ (n : ℕ). Some (LinkSpatial n)) (sym same) ∙ sym (entries_left c.args.pures.now c.args.atoms.now c.args.whole c.args.subst.now c.args.entries.now c.args.xs.now c.loop-k.k c.loop-k-test.false more) ∙ c.loop-k.invariant.0
+    ap (λ (n : ℕ). Some (LinkSpatial n)) (sym same)
+    ∙ sym (entries_left c.args.pures.now c.args.atoms.now c.args.whole c.args.subst.now c.args.entries.now
+    c.args.xs.now c.loop-k.k c.loop-k-test.false more) ∙ c.loop-k.invariant.0

@@ -10,16 +10,19 @@ loop-i-preserved c =
     let a = antecedent c.args.search.now.bud.now in
     let b = antecedent c.args.search.now.companion.now in
     let x = c.index-xs-i.result in
-    let same : c.spatial-xs.result.now ≡ b.spatial = c.spatial-xs.ensures.value ∙ ap (λ (h : SymbolicHeap). h.spatial) c.antecedent.ensures in
+    let same : c.spatial-xs.result.now ≡ b.spatial = c.spatial-xs.ensures.value
+    ∙ ap (λ (h : SymbolicHeap). h.spatial) c.antecedent.ensures in
     let here : c.loop-i.i < length c.spatial-xs.result.now = omega (arith, c.if-i-xs.false) in
     let within : c.loop-i.i < length b.spatial = subst (λ (ys : List Spatial). c.loop-i.i < length ys) same here in
     let placed : c.loop-i.i < length c.args.places.now = omega (arith, c.loop-i-test.true) in
-    let at : get_or b.spatial c.loop-i.i x ≡ x = subst (λ (ys : List Spatial). get_or ys c.loop-i.i x ≡ x) same (sym c.index-xs-i.is) in (
+    let at : get_or b.spatial c.loop-i.i x ≡ x = subst (λ (ys : List Spatial). get_or ys c.loop-i.i x ≡ x) same
+    (sym c.index-xs-i.is) in (
       omega (arith, placed),
       (
         omega (arith, within),
         λ pairs.
-            skips c.args.n a.pure a.spatial pairs c.args.places.now b.spatial c.loop-i.i x placed within at (sym c.stands_in_spatial.ensures ∙ c.if-stands_in_spatial.false)
+            skips c.args.n a.pure a.spatial pairs c.args.places.now b.spatial c.loop-i.i x placed within at
+            (sym c.stands_in_spatial.ensures ∙ c.if-stands_in_spatial.false)
             ∙ c.loop-i.invariant.1.1 pairs,
       ),
     )

@@ -7,4 +7,6 @@ use Rattle.back_links.proofs.prospects.has_cover.Goals as goal
 
 pub loop-m-preserved : goal.loop-m-preserved
 loop-m-preserved c =
-    any_next (λ m. covers_some (apply_heap c.args.subst.now c.args.c.now) (slice_get c.args.disjuncts.now m)) c.loop-m.m (length c.args.disjuncts.now) _ c.loop-m-test.true (sym c.covers_at.ensures ∙ c.if-covers_at.false) c.loop-m.invariant
+    any_next (λ m. covers_some (apply_heap c.args.subst.now c.args.c.now) (slice_get c.args.disjuncts.now m)) c.loop-m.m
+    (length c.args.disjuncts.now) _ c.loop-m-test.true (sym c.covers_at.ensures ∙ c.if-covers_at.false)
+    c.loop-m.invariant

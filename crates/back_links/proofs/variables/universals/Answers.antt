@@ -8,6 +8,10 @@ pub loop-n-preserved : goal.loop-n-preserved
 loop-n-preserved c =
     let test = λ (n : ℕ). stands_in n c.args.judgement.now in
     elim c.if-stands_in.branch [
-      | then-stands_in+in_ok-push w ↦ rw (w.all-is, w.in_ok-push.ensures.items) (kept_next test c.loop-n.n c.bound_of_judgement-bound.result c.loop-n.all.items _ c.loop-n-test.true (sym c.stands_in.ensures ∙ w.if-stands_in.true) c.loop-n.invariant)
-      | else-stands_in w ↦ rw w.all-is (left_next test c.loop-n.n c.bound_of_judgement-bound.result c.loop-n.all.items _ c.loop-n-test.true (sym c.stands_in.ensures ∙ w.if-stands_in.false) c.loop-n.invariant)
+      | then-stands_in+in_ok-push w ↦ rw (w.all-is, w.in_ok-push.ensures.items)
+          (kept_next test c.loop-n.n c.bound_of_judgement-bound.result c.loop-n.all.items _ c.loop-n-test.true
+          (sym c.stands_in.ensures ∙ w.if-stands_in.true) c.loop-n.invariant)
+      | else-stands_in w ↦ rw w.all-is
+          (left_next test c.loop-n.n c.bound_of_judgement-bound.result c.loop-n.all.items _ c.loop-n-test.true
+          (sym c.stands_in.ensures ∙ w.if-stands_in.false) c.loop-n.invariant)
     ]

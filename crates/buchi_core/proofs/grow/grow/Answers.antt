@@ -8,6 +8,10 @@ use Rattle.buchi_core.proofs.grow.grow.Goals as goal
 
 pub returns-clause-grown : goal.returns-clause-grown
 returns-clause-grown c =
-    grown_is (map (moved c.args._pairs.now (members c.args.positions)) (entries_of c.args.forest.now)) (children c.args._pairs.now (members c.args.positions) 0 (entries_of c.args.forest.now)) (top (members c.args.positions))
-    (made c.clear.new.young) (made c.push_moved.new.young) (made c.push_children.new.young) (made c.push_entry.new.young)
-    (ap entries_of c.clear.ensures.none) c.push_moved.ensures.moved c.push_children.ensures.children c.push_entry.ensures.entries
+    grown_is (map (moved c.args._pairs.now (members c.args.positions)) (entries_of c.args.forest.now))
+    (children c.args._pairs.now (members c.args.positions) 0 (entries_of c.args.forest.now))
+    (top (members c.args.positions))
+    (made c.clear.new.young) (made c.push_moved.new.young) (made c.push_children.new.young)
+    (made c.push_entry.new.young)
+    (ap entries_of c.clear.ensures.none)
+    c.push_moved.ensures.moved c.push_children.ensures.children c.push_entry.ensures.entries

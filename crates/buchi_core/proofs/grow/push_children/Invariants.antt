@@ -9,6 +9,7 @@ invariant-loop-entry l = record {
   long : length l.young.entries.items ≡ length l.fn.young.entries.items + l.entry-index;
   counted : l.number ≡ l.entry-index;
   left : AreLeft l.young;
-  so_far : scan_from trimmed (made l.young) (children l._pairs (members l.positions) l.number (entries_of (drop l.entry-index l.forest)))
+  so_far : scan_from trimmed (made l.young) (children l._pairs (members l.positions) l.number
+      (entries_of (drop l.entry-index l.forest)))
       ≡ scan_from trimmed (made l.fn.young) (children l._pairs (members l.positions) 0 (entries_of l.forest));
 }

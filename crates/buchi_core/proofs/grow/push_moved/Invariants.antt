@@ -8,6 +8,7 @@ abbrev pub invariant-loop-entry : goal.invariant-loop-entry
 invariant-loop-entry l = record {
   long : length l.young.entries.items ≡ length l.fn.young.entries.items + l.entry-index;
   left : AreLeft l.young;
-  so_far : scan_from trimmed (made l.young) (map (moved l._pairs (members l.positions)) (entries_of (drop l.entry-index l.forest)))
+  so_far : scan_from trimmed (made l.young) (map (moved l._pairs (members l.positions))
+      (entries_of (drop l.entry-index l.forest)))
       ≡ scan_from trimmed (made l.fn.young) (map (moved l._pairs (members l.positions)) (entries_of l.forest));
 }

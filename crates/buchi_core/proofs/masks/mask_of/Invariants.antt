@@ -1,7 +1,8 @@
 use Rattle.std.proofs.Common.{ℕ, ◌≡◌, ◌<◌, ◌||◌, drop}
 use Rattle.buchi_core.specs.Forest.{has}
-use Rattle.list_facts.specs.Bits.{is_one}
+use Rattle.cyc_basics.specs.Bits.{is_one}
 use Rattle.buchi_core.proofs.masks.mask_of.Given as goal
 
 abbrev pub invariant-loop-position : goal.invariant-loop-position
-invariant-loop-position l = (q : ℕ) → q < 32 → (is_one l.mask q || has (drop l.position-index l.positions) q) ≡ has l.positions q
+invariant-loop-position l = (q : ℕ) → q < 32 → (is_one l.mask q || has (drop l.position-index l.positions) q)
+    ≡ has l.positions q

@@ -11,6 +11,9 @@ use Rattle.buchi_core.proofs.settle.event_at.Goals as goal
 pub loop-place-preserved : goal.loop-place-preserved
 loop-place-preserved c =
     let k : is_kept (made c.args.young.now) c.loop-place.place ≡ true =
-    sym (c.is_kept_at.ensures ∙ ap (λ (z : List Entry). is_kept (entries_of z) c.loop-place.place) c.as_slice.ensures.value) ∙ c.if-not-is_kept_at.false in
-    let f : is_full (made c.args.young.now) c.loop-place.place ≡ false = sym c.is_full_at.ensures ∙ c.if-is_full_at.false in
-    event_more (made c.args.young.now) c.loop-place.place c.args.count c.loop-place-test.true k (and_left _ _ f) ∙ c.loop-place.invariant
+    sym (c.is_kept_at.ensures ∙ ap (λ (z : List Entry). is_kept (entries_of z) c.loop-place.place)
+    c.as_slice.ensures.value) ∙ c.if-not-is_kept_at.false in
+    let f : is_full (made c.args.young.now) c.loop-place.place ≡ false = sym c.is_full_at.ensures
+    ∙ c.if-is_full_at.false in
+    event_more (made c.args.young.now) c.loop-place.place c.args.count c.loop-place-test.true k (and_left _ _ f)
+    ∙ c.loop-place.invariant

@@ -7,5 +7,6 @@ use Rattle.buchi_core.proofs.settle.find_losses.Given as goal
 abbrev pub invariant-loop-entry : goal.invariant-loop-entry
 invariant-loop-entry l = record {
   long : length l.done.items ≡ l.entry-index;
-  so_far : scan_from (λ done (e : Entry). lost_below (made l.young) done e.parent) l.done.items (entries_of (drop l.entry-index l.entry-items)) ≡ losses (made l.young);
+  so_far : scan_from (λ done (e : Entry). lost_below (made l.young) done e.parent) l.done.items
+      (entries_of (drop l.entry-index l.entry-items)) ≡ losses (made l.young);
 }

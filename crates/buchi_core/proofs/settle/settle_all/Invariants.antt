@@ -6,5 +6,6 @@ use Rattle.buchi_core.proofs.settle.settle_all.Given as goal
 abbrev pub invariant-loop-entry : goal.invariant-loop-entry
 invariant-loop-entry l = record {
   counted : l.place ≡ l.entry-index;
-  so_far : forest_of l.next ++ map (settled (entries_of l.entries)) (places (is_kept (entries_of l.entries)) l.place (length l.entries - l.place)) ≡ settle (entries_of l.entries);
+  so_far : forest_of l.next ++ map (settled (entries_of l.entries))
+      (places (is_kept (entries_of l.entries)) l.place (length l.entries - l.place)) ≡ settle (entries_of l.entries);
 }

@@ -5,4 +5,5 @@ use Rattle.buchi_inclusion.specs.Decision.{IsGoodClass}
 use Rattle.buchi_inclusion.proofs.decision.decide.Given as goal
 
 abbrev pub invariant-loop-place : goal.invariant-loop-place
-invariant-loop-place l = (k : ℕ) → k < l.place → IsGoodClass l.graph (states_of l.table.states) l.table.rows.items (Dies k)
+invariant-loop-place l = (k : ℕ) → k < l.place → IsGoodClass l.graph (states_of l.table.states) l.table.rows.items
+    (Dies k)

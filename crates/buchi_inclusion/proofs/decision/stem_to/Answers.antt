@@ -10,5 +10,8 @@ use Rattle.buchi_inclusion.proofs.decision.stem_to.Goals as goal
 
 pub unreachable-requires : goal.unreachable-requires
 unreachable-requires c =
-    stem_is c.args.graph.now (states_of c.args.table.now.states) c.args.table.now.rows.items c.requires.table c.requires.graph c.args.place c.requires.place
-    (none_of (IsNoWay c.args.graph.now (states_of c.args.table.now.states) (Dies 0) 0 c.args.place) (λ (v : Vec Step Global). IsWalk c.args.graph.now (states_of c.args.table.now.states) (Dies 0) 0 c.args.place v.items) c.in_ok-found.found c.in_default.is c.in_ok-found.ensures)
+    stem_is c.args.graph.now (states_of c.args.table.now.states)
+    c.args.table.now.rows.items c.requires.table c.requires.graph c.args.place c.requires.place
+    (none_of (IsNoWay c.args.graph.now (states_of c.args.table.now.states) (Dies 0) 0 c.args.place)
+    (λ (v : Vec Step Global). IsWalk c.args.graph.now (states_of c.args.table.now.states) (Dies 0)
+    0 c.args.place v.items) c.in_ok-found.found c.in_default.is c.in_ok-found.ensures)

@@ -9,5 +9,7 @@ returns g c =
     let proof = c.args._proof.now in
     let graph = g.P.ProofSystem.graph_of proof in
     let faulty = g.P.ProofSystem.is_faulty proof in
-    descends_by_lassos graph (right_graph graph faulty (g.met.P.ProofSystem.right proof) c.requires.right (g.met.P.ProofSystem.some_node proof)) c.requires.lassos
-    (g.P.ProofSystem.holds proof) (local_all graph faulty (g.P.ProofSystem.holds proof) (g.met.P.ProofSystem.local proof) c.requires.right)
+    descends_by_lassos graph (right_graph graph faulty (g.met.P.ProofSystem.right proof) c.requires.right
+    (g.met.P.ProofSystem.some_node proof)) c.requires.lassos
+    (g.P.ProofSystem.holds proof) (local_all graph faulty (g.P.ProofSystem.holds proof)
+    (g.met.P.ProofSystem.local proof) c.requires.right)

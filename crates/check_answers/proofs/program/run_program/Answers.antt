@@ -2,7 +2,7 @@
 use Rattle.std.proofs.Common.{◌≡◌, Ok, sym, ◌∙◌}
 use Rattle.std.specs.Process.{exit_status}
 use Rattle.cyc_runs.specs.declared.endings.Status.TheVariants.{Success, Refused}
-use Rattle.reading_facts.proofs.Exits.{zero_is_success, one_is_refusal}
+use Rattle.check_answers.proofs.Exits.{zero_is_success, one_is_refusal}
 use Rattle.check_answers.proofs.program.run_program.Goals.{in-Ok, in-Err}
 use Rattle.check_answers.proofs.program.run_program.Goals as goal
 

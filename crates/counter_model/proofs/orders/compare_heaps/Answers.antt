@@ -4,4 +4,5 @@ use Rattle.counter_model.proofs.orders.compare_heaps.Goals as goal
 
 pub loop-address-preserved : goal.loop-address-preserved
 loop-address-preserved c =
-    c.loop-address.invariant ∙ same_so_far c.args.greatest c.args.x.now c.args.y.now c.loop-address.address (omega arith) c.in-Equal.ensures
+    c.loop-address.invariant ∙ same_so_far c.args.greatest c.args.x.now c.args.y.now c.loop-address.address
+    (omega arith) c.in-Equal.ensures

@@ -1,6 +1,6 @@
 use Rattle.std.proofs.Common.{ℕ, List, take}
 use Rattle.heap_formula.specs.Words.{Each}
-use Rattle.list_facts.specs.Words.{IsMember}
+use Rattle.cyc_basics.specs.Words.{IsMember}
 use Rattle.counter_model.specs.Tightness.{Breaks, IsStack}
 use Rattle.counter_model.proofs.tight_stacks.tight_stacks.Given as goal
 

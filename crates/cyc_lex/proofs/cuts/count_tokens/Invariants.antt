@@ -5,7 +5,8 @@ use Rattle.cyc_lex.proofs.CutLaws.{IsCounting}
 use Rattle.cyc_lex.proofs.cuts.count_tokens.Given as goal
 
 abbrev pub invariant-pieces : goal.invariant-pieces
-invariant-pieces l = IsCounting (lex true l.fn.place (comment_len l.fn.comment (chars l.fn.text)) (chars l.fn.text)) l.count l.rest l.place
+invariant-pieces l = IsCounting (lex true l.fn.place (comment_len l.fn.comment (chars l.fn.text)) (chars l.fn.text))
+    l.count l.rest l.place
 
 abbrev pub decreases-pieces : goal.decreases-pieces
 decreases-pieces l = length l.rest

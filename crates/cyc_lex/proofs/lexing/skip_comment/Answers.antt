@@ -14,18 +14,24 @@ unfolding comment_len pass_all
 returns-then-not-comment-clause-place c = rw c.if-not-comment.true refl
 
 pub overflow_sub-size : goal.overflow_sub-size
-overflow_sub-size c = (split c.args.text.now c.args.place c.run-behind.result (c.run-behind.result.offset - c.args.place.offset) _ c.utf8.text c.run-behind.ensures c.requires refl).after
+overflow_sub-size c = (split c.args.text.now c.args.place c.run-behind.result
+    (c.run-behind.result.offset - c.args.place.offset) _ c.utf8.text c.run-behind.ensures c.requires refl).after
 
 pub split_at-requires : goal.split_at-requires
-split_at-requires c = (split c.args.text.now c.args.place c.run-behind.result (c.run-behind.result.offset - c.args.place.offset) _ c.utf8.text c.run-behind.ensures c.requires refl).boundary
+split_at-requires c = (split c.args.text.now c.args.place c.run-behind.result
+    (c.run-behind.result.offset - c.args.place.offset) _ c.utf8.text c.run-behind.ensures c.requires refl).boundary
 
 pub returns-clause-rest : goal.returns-clause-rest
 unfolding comment_len
-returns-clause-rest c = ap chars c.split_at.ensures.back ∙ (split c.args.text.now c.args.place c.run-behind.result (c.run-behind.result.offset - c.args.place.offset) _ c.utf8.text c.run-behind.ensures c.requires refl).rest ∙ rw c.if-not-comment.false refl
+returns-clause-rest c = ap chars c.split_at.ensures.back
+    ∙ (split c.args.text.now c.args.place c.run-behind.result (c.run-behind.result.offset - c.args.place.offset)
+    _ c.utf8.text c.run-behind.ensures c.requires refl).rest ∙ rw c.if-not-comment.false refl
 
 pub returns-clause-place : goal.returns-clause-place
 unfolding comment_len
 returns-clause-place c = c.run-behind.ensures ∙ rw c.if-not-comment.false refl
 
 pub returns-clause-room : goal.returns-clause-room
-returns-clause-room c = subst (λ (x : List ℕ). HasRoom c.run-behind.result (length x)) (sym c.split_at.ensures.back) (split c.args.text.now c.args.place c.run-behind.result (c.run-behind.result.offset - c.args.place.offset) _ c.utf8.text c.run-behind.ensures c.requires refl).room
+returns-clause-room c = subst (λ (x : List ℕ). HasRoom c.run-behind.result (length x)) (sym c.split_at.ensures.back)
+    (split c.args.text.now c.args.place c.run-behind.result (c.run-behind.result.offset - c.args.place.offset)
+    _ c.utf8.text c.run-behind.ensures c.requires refl).room

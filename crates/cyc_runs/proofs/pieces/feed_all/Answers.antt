@@ -9,12 +9,13 @@ turns-preserved g c =
       fed = turn_more _ _ _ _ _ _ _ _ _ c.turns.invariant.fed turn;
       had = turn.1;
       within = turn.2;
-      calm = search rules;
+      no_faults = search rules;
     }
 
 pub returns-in-PastLimit-clause-fed : goal.returns-in-PastLimit-clause-fed
 returns-in-PastLimit-clause-fed g c =
-    fed_past _ _ _ _ _ _ c.turns.invariant.fed c.turns.invariant.within (rw c.in-PastLimit.is at c.in_ok-so_far.ensures.turn)
+    fed_past _ _ _ _ _ _ c.turns.invariant.fed c.turns.invariant.within
+    (rw c.in-PastLimit.is at c.in_ok-so_far.ensures.turn)
 
 pub returns-in_err-so_far-clause-taken : goal.returns-in_err-so_far-clause-taken
 returns-in_err-so_far-clause-taken g c =

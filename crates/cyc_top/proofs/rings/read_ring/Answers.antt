@@ -10,9 +10,11 @@ pub returns-in-Ok : goal.returns-in-Ok
 returns-in-Ok c =
     let ring = c.in_ok-ring_file in
     let whole = whole_ring c.args.k ring.field-0 ring.ensures.definitions ring.ensures.program ring.ensures.file_form in
-    read_ring_is c.args.k ring.field-0 c.in-Ok.file _ whole (c.as_slice.ensures.value ∙ c.in_ok-text.ensures.text) c.in-Ok.ensures
+    read_ring_is c.args.k ring.field-0 c.in-Ok.file _ whole (c.as_slice.ensures.value ∙ c.in_ok-text.ensures.text)
+    c.in-Ok.ensures
 
 pub unreachable-requires : goal.unreachable-requires
 unreachable-requires c =
     c.in_default.not-OutOfMemory
-    (read_ring_faultless c.in_ok-ring_file.field-0 _ c.in-Err.fault (c.as_slice.ensures.value ∙ c.in_ok-text.ensures.text) c.in-Err.ensures)
+    (read_ring_faultless c.in_ok-ring_file.field-0 _ c.in-Err.fault
+    (c.as_slice.ensures.value ∙ c.in_ok-text.ensures.text) c.in-Err.ensures)

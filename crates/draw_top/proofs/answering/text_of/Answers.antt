@@ -11,4 +11,7 @@ graph_in-requires c =
 
 pub returns : goal.returns
 returns c =
-    text_is (λ b. b.items) c.write_graph.result c.args.view c.args.file.now c.in_ok-verdict.verdict c.in_ok-picture.picture (drawing_of c.in_ok-graph.graph) c.in_ok-verdict.ensures c.in_ok-picture.ensures c.in_ok-graph.ensures c.write_graph.ensures
+    text_is (λ b. b.items)
+    c.write_graph.result c.args.view c.args.file.now c.in_ok-verdict.verdict c.in_ok-picture.picture
+    (drawing_of c.in_ok-graph.graph)
+    c.in_ok-verdict.ensures c.in_ok-picture.ensures c.in_ok-graph.ensures c.write_graph.ensures

@@ -7,4 +7,5 @@ use Rattle.draw_top.proofs.edges.add_edges.Given as goal
 -- The edges so far, and those that are left.
 abbrev pub invariant-loop-arrow : goal.invariant-loop-arrow
 invariant-loop-arrow l =
-    map edge_of l.edges.items ++ arrow_edges l.from (map drawn_of (drop l.arrow-index l.arrows)) ≡ map edge_of l.fn.edges.items ++ arrow_edges l.from (map drawn_of l.arrows)
+    map edge_of l.edges.items ++ arrow_edges l.from (map drawn_of (drop l.arrow-index l.arrows))
+    ≡ map edge_of l.fn.edges.items ++ arrow_edges l.from (map drawn_of l.arrows)

@@ -1,7 +1,7 @@
 use Rattle.std.proofs.Common.{◌≡◌, ◌++◌, map}
 use Rattle.draw_top.specs.Graphs.{edge_of, node_of}
 use Rattle.draw_top.specs.Folds.{shown_edges, shown_nodes}
-use Rattle.picture_folds.specs.Shown.{shown_of}
+use Rattle.proof_picture.specs.Shown.{shown_of}
 use Rattle.draw_top.proofs.folds.add_boxes.Given as goal
 
 -- The nodes and edges so far, and those of the boxes that are left.

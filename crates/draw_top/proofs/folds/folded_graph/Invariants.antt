@@ -1,7 +1,7 @@
 use Rattle.std.proofs.Common.{◌≡◌, ◌++◌, map}
 use Rattle.draw_top.specs.Graphs.{cluster_of, edge_of, node_of}
 use Rattle.draw_top.specs.Folds.{trees_clusters, trees_edges, trees_nodes}
-use Rattle.picture_folds.specs.Shown.{tree_of}
+use Rattle.proof_picture.specs.Shown.{tree_of}
 use Rattle.draw_top.proofs.folds.folded_graph.Given as goal
 
 -- The nodes, frames and edges so far, and those of the trees that are left.

@@ -9,6 +9,11 @@ use Rattle.draw_top.proofs.writing.write_cluster_heading.Goals as goal
 pub returns : goal.returns
 returns c =
     let number = decimal c.args.cluster.now.number in
-    let begun = c.in_ok-number.ensures ∙ ap (λ s. s ++ number) c.in_ok-text.ensures ∙ append_assoc c.args.out.now (codes "subgraph cluster_") number in
-    let written = subst (λ (xs : List Attribute). OnOk c.write_attributes.result (c.write_attributes.new.out ≡ c.text-2.new.self ++ bracketed (map set_of xs))) c.deref.ensures.value c.write_attributes.ensures in
-    three_parts c.write_attributes.result c.args.out.now c.number.new.self c.text-2.new.self c.write_attributes.new.out (codes "subgraph cluster_" ++ number) (codes " {\ngraph") (bracketed (map set_of c.args.cluster.now.attributes.items)) begun c.in_ok-text-2.ensures written
+    let begun = c.in_ok-number.ensures ∙ ap (λ s. s ++ number) c.in_ok-text.ensures
+    ∙ append_assoc c.args.out.now (codes "subgraph cluster_") number in
+    let written = subst (λ (xs : List Attribute). OnOk c.write_attributes.result
+    (c.write_attributes.new.out ≡ c.text-2.new.self ++ bracketed (map set_of xs)))
+    c.deref.ensures.value c.write_attributes.ensures in
+    three_parts c.write_attributes.result c.args.out.now c.number.new.self c.text-2.new.self c.write_attributes.new.out
+    (codes "subgraph cluster_" ++ number) (codes " {\ngraph")
+    (bracketed (map set_of c.args.cluster.now.attributes.items)) begun c.in_ok-text-2.ensures written

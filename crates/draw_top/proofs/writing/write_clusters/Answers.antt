@@ -1,5 +1,5 @@
 use Rattle.std.proofs.Common.{List, ◌+◌, ◌++◌, append_assoc, map, drop, sym, ap, ◌∙◌}
-use Rattle.list_facts.proofs.Places.{drop_read}
+use Rattle.cyc_basics.proofs.Places.{drop_read}
 use Rattle.draw_top.specs.declared.graph.Cluster.{Cluster}
 use Rattle.draw_top.specs.Graphs.{cluster_of}
 use Rattle.draw_top.specs.Texts.{cluster_text, clusters_text}
@@ -13,5 +13,6 @@ loop-cluster-preserved c =
     let rest = clusters_text (map cluster_of (drop (i + 1) clusters)) in
     ap (λ s. s ++ rest) c.in_ok-write_cluster.ensures
     ∙ append_assoc c.loop-cluster.out (cluster_text (cluster_of item)) rest
-    ∙ ap (λ (xs : List Cluster). c.loop-cluster.out ++ clusters_text (map cluster_of xs)) (sym (drop_read clusters i item c.loop-cluster-test.true c.cluster-item.is))
+    ∙ ap (λ (xs : List Cluster). c.loop-cluster.out ++ clusters_text (map cluster_of xs))
+    (sym (drop_read clusters i item c.loop-cluster-test.true c.cluster-item.is))
     ∙ c.loop-cluster.invariant

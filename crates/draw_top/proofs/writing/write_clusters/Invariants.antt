@@ -5,4 +5,5 @@ use Rattle.draw_top.proofs.writing.write_clusters.Given as goal
 
 -- The text so far and the texts of what is left.
 abbrev pub invariant-loop-cluster : goal.invariant-loop-cluster
-invariant-loop-cluster l = l.out ++ clusters_text (map cluster_of (drop l.cluster-index l.clusters)) ≡ l.fn.out ++ clusters_text (map cluster_of l.clusters)
+invariant-loop-cluster l = l.out ++ clusters_text (map cluster_of (drop l.cluster-index l.clusters)) ≡ l.fn.out
+    ++ clusters_text (map cluster_of l.clusters)

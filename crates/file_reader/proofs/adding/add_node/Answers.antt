@@ -16,8 +16,12 @@ flaw-requires-clause-later c =
     let most = most_spatial c.args.known.now.version in
     let at = c.args.found.now.tokens in
     let x = node_of c.args.tree.now in
-    let is : node_flaw most c.args.heads.now c.args.known.now.lines c.len-n.result at x ≡ Some c.in-Err-Flaw.flaw = subst (λ (f : NodeFault). IsNodeMade (node_flaw most c.args.heads.now c.args.known.now.lines c.len-n.result at x) (node_value c.args.heads.now x) (Err f)) c.in-Err-Flaw.field-0-is c.in-Err-Flaw.ensures in
-    let after = subst (λ o. After o at) is (node_after most c.args.heads.now c.args.known.now.lines c.len-n.result at x) in
+    let is : node_flaw most c.args.heads.now c.args.known.now.lines c.len-n.result at x
+    ≡ Some c.in-Err-Flaw.flaw = subst (λ (f : NodeFault). IsNodeMade
+    (node_flaw most c.args.heads.now c.args.known.now.lines c.len-n.result at x) (node_value c.args.heads.now x)
+    (Err f)) c.in-Err-Flaw.field-0-is c.in-Err-Flaw.ensures in
+    let after = subst (λ o. After o at) is (node_after most c.args.heads.now c.args.known.now.lines c.len-n.result at x)
+    in
     omega (arith, after, c.requires.later)
 
 pub flaw-requires-clause-within : goal.flaw-requires-clause-within
@@ -26,6 +30,9 @@ flaw-requires-clause-within c =
     let at = c.args.found.now.tokens in
     let x = node_of c.args.tree.now in
     let flaw = node_flaw most c.args.heads.now c.args.known.now.lines c.len-n.result at x in
-    let is : flaw ≡ Some c.in-Err-Flaw.flaw = subst (λ (f : NodeFault). IsNodeMade (node_flaw most c.args.heads.now c.args.known.now.lines c.len-n.result at x) (node_value c.args.heads.now x) (Err f)) c.in-Err-Flaw.field-0-is c.in-Err-Flaw.ensures in
-    let within = flaw_within flaw (at + node_span x) c.in-Err-Flaw.flaw (node_before most c.args.heads.now c.args.known.now.lines c.len-n.result at x) is in
+    let is : flaw ≡ Some c.in-Err-Flaw.flaw = subst (λ (f : NodeFault). IsNodeMade
+    (node_flaw most c.args.heads.now c.args.known.now.lines c.len-n.result at x) (node_value c.args.heads.now x)
+    (Err f)) c.in-Err-Flaw.field-0-is c.in-Err-Flaw.ensures in
+    let within = flaw_within flaw (at + node_span x) c.in-Err-Flaw.flaw
+    (node_before most c.args.heads.now c.args.known.now.lines c.len-n.result at x) is in
     omega (arith, within, c.requires.within)

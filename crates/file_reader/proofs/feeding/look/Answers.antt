@@ -14,7 +14,8 @@ returns-then-not-valid c =
     let fed = r.place.offset + c.len.result in
     let valid = subst (λ (b : List ℕ). IsValid b v) c.deref.ensures.value c.valid_front-valid.ensures in
     IfOk-weaker c.stopped.result (IsStopped c.first_bad.result fed) (IsKept old [])
-    (λ new h. bad-first old tt v valid fed (omega (arith, c.len.ensures)) new c.first_bad.result c.if-not-valid.true c.first_bad.ensures h) c.stopped.ensures
+    (λ new h. bad-first old tt v valid fed (omega (arith, c.len.ensures))
+    new c.first_bad.result c.if-not-valid.true c.first_bad.ensures h) c.stopped.ensures
 
 pub after_nodes-requires : goal.after_nodes-requires
 after_nodes-requires c =
@@ -22,7 +23,12 @@ after_nodes-requires c =
     let v = c.valid_front-valid.result in
     let valid = subst (λ (b : List ℕ). IsValid b v) c.deref.ensures.value c.valid_front-valid.ensures in
     let rest = c.in_ok-rest-in-Ok.rest in
-    omega (arith, runs-count r v c.in-Ok.ran c.read_text.new.found rest.items valid.utf8 valid.whole c.in-Ok.ensures (c.in_ok-rest-in-Ok.ensures ∙ ap (λ (b : List ℕ). b ++ v.tail.now) c.as_bytes.ensures.value), c.requires.room)
+    omega (
+      arith,
+      runs-count r v c.in-Ok.ran c.read_text.new.found rest.items valid.utf8 valid.whole c.in-Ok.ensures
+          (c.in_ok-rest-in-Ok.ensures ∙ ap (λ (b : List ℕ). b ++ v.tail.now) c.as_bytes.ensures.value),
+      c.requires.room,
+    )
 
 pub returns-in_ok-rest-in-Ok : goal.returns-in_ok-rest-in-Ok
 returns-in_ok-rest-in-Ok c =
@@ -30,7 +36,9 @@ returns-in_ok-rest-in-Ok c =
     let v = c.valid_front-valid.result in
     let valid = subst (λ (b : List ℕ). IsValid b v) c.deref.ensures.value c.valid_front-valid.ensures in
     let rest = c.in_ok-rest-in-Ok.rest in
-    runs-on r v c.in-Ok.ran c.read_text.new.found rest.items valid.utf8 valid.whole c.in-Ok.ensures (c.in_ok-rest-in-Ok.ensures ∙ ap (λ (b : List ℕ). b ++ v.tail.now) c.as_bytes.ensures.value) c.after_nodes.result c.after_nodes.ensures
+    runs-on r v c.in-Ok.ran c.read_text.new.found rest.items valid.utf8 valid.whole c.in-Ok.ensures
+    (c.in_ok-rest-in-Ok.ensures ∙ ap (λ (b : List ℕ). b ++ v.tail.now) c.as_bytes.ensures.value)
+    c.after_nodes.result c.after_nodes.ensures
 
 pub returns-in-Err : goal.returns-in-Err
 returns-in-Err c =
@@ -40,4 +48,5 @@ returns-in-Err c =
     let fed = r.place.offset + c.len.result in
     let valid = subst (λ (b : List ℕ). IsValid b v) c.deref.ensures.value c.valid_front-valid.ensures in
     IfOk-weaker c.stopped-in-Err.result (IsStopped c.in-Err.stop fed) (IsKept old [])
-    (λ new h. bad-text old tt v valid fed (omega (arith, c.len.ensures)) new c.in-Err.stop c.if-not-valid.false c.in-Err.ensures h) c.stopped-in-Err.ensures
+    (λ new h. bad-text old tt v valid fed (omega (arith, c.len.ensures))
+    new c.in-Err.stop c.if-not-valid.false c.in-Err.ensures h) c.stopped-in-Err.ensures

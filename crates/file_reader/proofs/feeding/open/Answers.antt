@@ -13,7 +13,8 @@ returns-then-not-valid c =
     let fed = c.len-fed.result in
     let valid = subst (λ (b : List ℕ). IsValid b v) c.deref.ensures.value c.valid_front-valid.ensures in
     IfOk-weaker c.stopped.result (IsStopped c.first_bad.result fed) (IsKept old [])
-    (λ new h. bad-first old tt v valid fed (omega (arith, c.len-fed.ensures)) new c.first_bad.result c.if-not-valid.true c.first_bad.ensures h) c.stopped.ensures
+    (λ new h. bad-first old tt v valid fed (omega (arith, c.len-fed.ensures))
+    new c.first_bad.result c.if-not-valid.true c.first_bad.ensures h) c.stopped.ensures
 
 pub returns-in-Err : goal.returns-in-Err
 returns-in-Err c =
@@ -22,4 +23,5 @@ returns-in-Err c =
     let fed = c.len-fed.result in
     let valid = subst (λ (b : List ℕ). IsValid b v) c.deref.ensures.value c.valid_front-valid.ensures in
     IfOk-weaker c.stopped-in-Err.result (IsStopped c.in-Err.stop fed) (IsKept old [])
-    (λ new h. bad-text old tt v valid fed (omega (arith, c.len-fed.ensures)) new c.in-Err.stop c.if-not-valid.false c.in-Err.ensures h) c.stopped-in-Err.ensures
+    (λ new h. bad-text old tt v valid fed (omega (arith, c.len-fed.ensures))
+    new c.in-Err.stop c.if-not-valid.false c.in-Err.ensures h) c.stopped-in-Err.ensures

@@ -15,7 +15,8 @@ use Rattle.file_reader.proofs.StepLaws.{fault-within}
 use Rattle.file_reader.proofs.finishing.finish_opening.Goals as goal
 
 pub read_last-requires-clause-stands : goal.read_last-requires-clause-stands
-read_last-requires-clause-stands c = opening-stands c.deref.result.now c.in_ok-stretch.stretch c.begin.new.cursor c.in-Ok.beginning c.in_ok-stretch.ensures c.in-Ok.ensures
+read_last-requires-clause-stands c = opening-stands c.deref.result.now c.in_ok-stretch.stretch c.begin.new.cursor
+    c.in-Ok.beginning c.in_ok-stretch.ensures c.in-Ok.ensures
 
 pub dead-requires-clause-within : goal.dead-requires-clause-within
 dead-requires-clause-within c =
@@ -23,10 +24,13 @@ dead-requires-clause-within c =
     let ws = map word_of (tokens_of s) in
     let e = subst (λ (r : Refusal). Fails r (file.read ws)) c.in-Err-Dead.field-0-is c.in-Err-Dead.ensures in
     let within = fault-within file file-law ws c.in-Err-Dead.left e in
-    subst (λ (n : ℕ). n ≤ s.count) (sym c.in-Err-Dead.left-is) (omega (arith, within, length-map (tokens_of s) word_of, stretch-size s c.in_ok-stretch.ensures.stretch))
+    subst (λ (n : ℕ). n ≤ s.count) (sym c.in-Err-Dead.left-is)
+    (omega (arith, within, length-map (tokens_of s) word_of, stretch-size s c.in_ok-stretch.ensures.stretch))
 
 pub returns-in-Ok : goal.returns-in-Ok
 returns-in-Ok c =
     let s = c.in_ok-stretch.stretch in
     let last = subst (λ (b : List ℕ). IsLastStretch start false b 0 s) c.deref.ensures.value c.in_ok-stretch.ensures in
-    subst (λ (o : Outcome). Tells o c.read_last.result) (sym (opening-comes c.args.opening.now.all.items s c.begin.new.cursor c.in-Ok.beginning last c.in-Ok.ensures)) c.read_last.ensures
+    subst (λ (o : Outcome). Tells o c.read_last.result)
+    (sym (opening-comes c.args.opening.now.all.items s c.begin.new.cursor c.in-Ok.beginning last c.in-Ok.ensures))
+    c.read_last.ensures

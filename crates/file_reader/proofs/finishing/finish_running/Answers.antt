@@ -12,11 +12,14 @@ pub returns-in_err-stretch : goal.returns-in_err-stretch
 returns-in_err-stretch c =
     let r = c.args.running in
     let p = err_from_is_err_and c.from_residual.result c.from_residual.ensures.1 in
-    rw (p.1, p.2) (stops-outcome (parts_of (kinds.Running r)) c.in_err-stretch.field-0.0 tt (subst (λ (b : List ℕ). LastStretches r.place r.comment b 0 (Err c.in_err-stretch.field-0.0)) c.deref.ensures.value c.in_err-stretch.ensures))
+    rw (p.1, p.2) (stops-outcome (parts_of (kinds.Running r)) c.in_err-stretch.field-0.0 tt
+    (subst (λ (b : List ℕ). LastStretches r.place r.comment b 0 (Err c.in_err-stretch.field-0.0))
+    c.deref.ensures.value c.in_err-stretch.ensures))
 
 pub returns : goal.returns
 returns c =
     let r = c.args.running in
     let s = c.in_ok-stretch.stretch in
-    let last = subst (λ (b : List ℕ). IsLastStretch r.place r.comment b r.found.tokens s) c.deref.ensures.value c.in_ok-stretch.ensures in
+    let last = subst (λ (b : List ℕ). IsLastStretch r.place r.comment b r.found.tokens s)
+    c.deref.ensures.value c.in_ok-stretch.ensures in
     subst (λ (o : Outcome). Tells o c.read_last.result) (sym (running-comes r s last)) c.read_last.ensures

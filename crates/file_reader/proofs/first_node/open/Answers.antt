@@ -10,6 +10,14 @@ use Rattle.file_reader.proofs.first_node.open.Goals as goal
 pub flaw-requires-clause-within : goal.flaw-requires-clause-within
 flaw-requires-clause-within c =
     let f = c.args.front.now in
-    let same : c.front_flaw.result ≡ file_flaw (tree_of f.version (front_defs f) f.lines.items []) = c.front_flaw.ensures ∙ (λ i. file_flaw (front_of f.version (map definition_of (c.deref.ensures.value i)) (c.deref-2.ensures.value i))) in
-    let is : file_flaw (tree_of f.version (front_defs f) f.lines.items []) ≡ Some c.in-Some.flaw = sym same ∙ c.in-Some.is in
-    omega (arith, front-within f.version (front_defs f) f.lines.items c.in-Some.flaw is, c.requires.within, c.requires.before)
+    let same : c.front_flaw.result ≡ file_flaw (tree_of f.version (front_defs f) f.lines.items [])
+    = c.front_flaw.ensures ∙ (λ i. file_flaw (front_of f.version (map definition_of (c.deref.ensures.value i))
+    (c.deref-2.ensures.value i))) in
+    let is : file_flaw (tree_of f.version (front_defs f) f.lines.items []) ≡ Some c.in-Some.flaw = sym same
+    ∙ c.in-Some.is in
+    omega (
+      arith,
+      front-within f.version (front_defs f) f.lines.items c.in-Some.flaw is,
+      c.requires.within,
+      c.requires.before,
+    )

@@ -10,4 +10,7 @@ use Rattle.file_reader.proofs.nodes.take_step.Goals as goal
 pub returns-in-Err : goal.returns-in-Err
 returns-in-Err c =
     let refusal = c.in-Err.refusal in
-    end-refused c.args.known.now (tokens_of c.args.stretch) c.args.found.now refusal c.refused.result c.if-not-found.false (subst (λ (ws : List Word). Fails refusal (read_class the_end ws)) c.requires.cursor c.in-Err.ensures) c.refused.ensures
+    end-refused c.args.known.now (tokens_of c.args.stretch)
+    c.args.found.now refusal c.refused.result c.if-not-found.false
+    (subst (λ (ws : List Word). Fails refusal (read_class the_end ws)) c.requires.cursor c.in-Err.ensures)
+    c.refused.ensures

@@ -7,7 +7,8 @@ use Rattle.file_reader.proofs.passing.pass_tokens.Given as goal
 
 abbrev pub invariant-tokens : goal.invariant-tokens
 invariant-tokens l = record {
-  taken : (ts : List Placed) × HasTaken (reading l.fn.place l.fn.comment l.fn.text) ts (reading l.place l.comment l.rest);
+  taken : (ts : List Placed) × HasTaken (reading l.fn.place l.fn.comment l.fn.text) ts
+      (reading l.place l.comment l.rest);
   room : HasRoom l.place (length l.rest);
   utf8 : IsUtf8 l.rest;
 }

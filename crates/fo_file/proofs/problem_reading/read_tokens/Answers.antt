@@ -2,12 +2,12 @@ use Rattle.std.proofs.Common.{length, sym, ap, ◌∙◌, arith}
 use Rattle.std.proofs.lemmas.List.{length-map}
 use Rattle.cyc_lex.specs.Word.{word_of}
 use Rattle.heap_reader.proofs.WithinSpans.{flaw_within}
-use Rattle.fo_problem_syntax.specs.Trees.{problem_of}
-use Rattle.fo_walk.specs.Spans.{problem_end}
-use Rattle.fo_walk.specs.Flaws.{problem_flaw}
-use Rattle.fo_walk.proofs.Parsed.{problem_is}
-use Rattle.fo_walk.proofs.SpanLaws.{problem_words}
-use Rattle.fo_walk.proofs.WithinSpans.{problem_before}
+use Rattle.fo_syntax.specs.ProblemTrees.{problem_of}
+use Rattle.fo_file.specs.Spans.{problem_end}
+use Rattle.fo_file.specs.Flaws.{problem_flaw}
+use Rattle.fo_file.proofs.Parsed.{problem_is}
+use Rattle.fo_file.proofs.SpanLaws.{problem_words}
+use Rattle.fo_file.proofs.WithinSpans.{problem_before}
 use Rattle.fo_file.proofs.problem_reading.read_tokens.Goals as goal
 
 pub problem_flaw-requires-clause-fits : goal.problem_flaw-requires-clause-fits
@@ -20,5 +20,6 @@ flaw_fault-requires-clause-there c =
     let tree = problem_of c.in_ok-tree.tree in
     let is = problem_is tree c.in_ok-tree.ensures.exact.0 in
     let words = problem_words tree c.in_ok-tree.ensures.exact.0 in
-    let before = flaw_within (problem_flaw tree) (problem_end tree) c.in-Some.flaw (problem_before tree is.0 is.1) (sym c.in_ok-flaw.ensures ∙ c.in-Some.is) in
+    let before = flaw_within (problem_flaw tree) (problem_end tree) c.in-Some.flaw (problem_before tree is.0 is.1)
+    (sym c.in_ok-flaw.ensures ∙ c.in-Some.is) in
     omega (arith, words, ap length c.in_ok-tree.ensures.exact.1, length-map c.args.tokens.now word_of, before)

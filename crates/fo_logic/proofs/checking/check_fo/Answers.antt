@@ -18,4 +18,5 @@ check_proof-requires-clause-stand c = rw c.as_slice.ensures (may_stand c.args.fi
 pub returns : goal.returns
 returns c =
     let f = c.args.file.now in
-    IfOk-weaker c.check_proof.result (IsVerdictOn (logic_of f) (Holds f.theory) f.nodes) (IsVerdict f) (verdict_on_file f) (rw c.as_slice.ensures at c.check_proof.ensures)
+    IfOk-weaker c.check_proof.result (IsVerdictOn (logic_of f) (Holds f.theory) f.nodes) (IsVerdict f)
+    (verdict_on_file f) (rw c.as_slice.ensures at c.check_proof.ensures)

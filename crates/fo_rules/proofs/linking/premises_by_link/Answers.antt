@@ -1,6 +1,6 @@
 use Rattle.std.proofs.Common.{◌∙◌, sym}
-use Rattle.fo_table.specs.LinkTable.{linked}
-use Rattle.fo_table.proofs.Links.{link_names}
+use Rattle.fo_formula.specs.LinkTable.{linked}
+use Rattle.fo_formula.proofs.Links.{link_names}
 use Rattle.fo_rules.proofs.LinkMaking.{names_small}
 use Rattle.fo_rules.proofs.linking.premises_by_link.Goals as goal
 

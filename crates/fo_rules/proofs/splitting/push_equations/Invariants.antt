@@ -1,5 +1,5 @@
 use Rattle.std.proofs.Common.{◌≡◌, ◌++◌}
-use Rattle.fo_table.specs.Table.{equations}
+use Rattle.fo_formula.specs.Table.{equations}
 use Rattle.fo_rules.proofs.splitting.push_equations.Given as goal
 
 abbrev pub invariant-loop-remaining : goal.invariant-loop-remaining

@@ -5,4 +5,5 @@ use Rattle.fo_formula.specs.declared.atoms.FoAtom.{FoAtom}
 use Rattle.fo_rules.proofs.unfolding.are_short.Given as goal
 
 abbrev pub invariant-loop-case : goal.invariant-loop-case
-invariant-loop-case l = list_all (λ (c : List FoAtom). nat_le (l.kept + length c) 32) (drop l.case-index l.cases) ≡ list_all (λ (c : List FoAtom). nat_le (l.kept + length c) 32) l.cases
+invariant-loop-case l = list_all (λ (c : List FoAtom). nat_le (l.kept + length c) 32) (drop l.case-index l.cases)
+    ≡ list_all (λ (c : List FoAtom). nat_le (l.kept + length c) 32) l.cases

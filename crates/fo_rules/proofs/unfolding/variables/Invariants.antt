@@ -1,5 +1,5 @@
 use Rattle.std.proofs.Common.{◌≡◌, ◌+◌, ◌-◌, ◌++◌}
-use Rattle.fo_table.specs.Table.{variables_from}
+use Rattle.fo_formula.specs.Table.{variables_from}
 use Rattle.fo_rules.proofs.unfolding.variables.Given as goal
 
 abbrev pub invariant-loop-k : goal.invariant-loop-k

@@ -1,4 +1,4 @@
-use Rattle.fo_calculus.proofs.Fairness.{first_order_fair}
+use Rattle.fo_search.proofs.Fairness.{first_order_fair}
 use Rattle.fo_search.proofs.prover.begin.Goals as goal
 
 pub new-requires-clause-fair : goal.new-requires-clause-fair

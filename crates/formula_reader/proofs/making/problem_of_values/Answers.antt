@@ -3,7 +3,7 @@ use Rattle.std.specs.List.{list_all}
 use Rattle.heap_formula.specs.Judgements.{antecedent}
 use Rattle.pred_defs.specs.Book.{DefinitionBook}
 use Rattle.heap_reader.specs.Small.{is_short_heap}
-use Rattle.value_limits.proofs.Universal.{universal_heap_passes}
+use Rattle.formula_reader.proofs.Universal.{universal_heap_passes}
 use Rattle.formula_reader.specs.Problems.{goal_heaps}
 use Rattle.formula_reader.proofs.FromWithin.{within_closed, within_known, within_short, within_line}
 use Rattle.formula_reader.proofs.making.problem_of_values.Goals as goal
@@ -21,6 +21,7 @@ invariant_of-result c =
       closed = within_closed book.most book.list kept.definitions;
       known = within_known book.most book.list count judgement kept.goal;
       universal = universal_heap_passes (antecedent judgement) kept.goal.universal;
-      short = subst (λ (most : ℕ). list_all (is_short_heap most) (goal_heaps judgement) ≡ true) limit_is (within_short book.most book.list count judgement kept.goal);
+      short = subst (λ (most : ℕ). list_all (is_short_heap most) (goal_heaps judgement) ≡ true) limit_is
+          (within_short book.most book.list count judgement kept.goal);
       line = within_line book.most book.list count judgement kept.goal;
     }

@@ -7,15 +7,16 @@ use Rattle.pred_defs.specs.Book.{DefinitionBook}
 use Rattle.pred_defs.specs.Faults.{closed_fault}
 use Rattle.goto_lang.specs.Faults.{program_fault}
 use Rattle.heap_syntax.specs.Versions.{most_spatial}
-use Rattle.line_reader.specs.Values.{line_value, variable_value, program_value}
-use Rattle.name_numbers.specs.declared.tree.NumberedDefinition.{NumberedDefinition}
-use Rattle.name_numbers.specs.Numbered.{definition_of, problem_of}
+use Rattle.heap_reader.specs.LineValues.{line_value, variable_value, program_value}
+use Rattle.problem_syntax.specs.declared.numbering.tree.NumberedDefinition.{NumberedDefinition}
+use Rattle.problem_syntax.specs.Numbered.{definition_of, problem_of}
 use Rattle.formula_reader.specs.Flaws.{heading}
 use Rattle.formula_reader.specs.Values.{definition_value, goal_value}
 use Rattle.heap_reader.specs.Small.{is_short_heap}
 use Rattle.formula_reader.specs.Problems.{goal_heaps, goal_fault, has_line}
 use Rattle.formula_reader.specs.Small.{IsSmallDefinition}
-use Rattle.formula_reader.proofs.Keeping.{small_of, is_closed, is_known, has_universal_antecedent, is_short, has_its_line}
+use Rattle.formula_reader.proofs.Keeping.{small_of, is_closed, is_known, has_universal_antecedent, is_short}
+use Rattle.formula_reader.proofs.Keeping.{has_its_line}
 use Rattle.formula_reader.proofs.Within.{said_within}
 use Rattle.formula_reader.proofs.reading.problem_of_tree.Goals as goal
 use Rattle.rule_table.specs.Tests.{is_universal_heap}
@@ -23,7 +24,8 @@ use Rattle.rule_table.specs.Tests.{is_universal_heap}
 pub definitions-requires-clause-small : goal.definitions-requires-clause-small
 definitions-requires-clause-small c =
     let small = small_of (problem_of c.args.tree.now) c.requires.text c.requires.right in
-    subst (λ (ds : List NumberedDefinition). Each IsSmallDefinition (map definition_of ds)) (sym c.deref.ensures.value) small.definitions
+    subst (λ (ds : List NumberedDefinition). Each IsSmallDefinition (map definition_of ds)) (sym c.deref.ensures.value)
+    small.definitions
 
 pub definitions-requires-clause-few : goal.definitions-requires-clause-few
 definitions-requires-clause-few c =
@@ -53,7 +55,13 @@ pub from_vec-requires-clause-few : goal.from_vec-requires-clause-few
 from_vec-requires-clause-few c =
     let small = small_of (problem_of c.args.tree.now) c.requires.text c.requires.right in
     let few = small.few in
-    omega (arith, few, length-map c.args.tree.now.definitions.items definition_of, ap length c.deref.ensures.value, c.in_ok-definitions.ensures.size)
+    omega (
+      arith,
+      few,
+      length-map c.args.tree.now.definitions.items definition_of,
+      ap length c.deref.ensures.value,
+      c.in_ok-definitions.ensures.size,
+    )
 
 pub invariant_of-result : goal.invariant_of-result
 invariant_of-result c =
@@ -61,13 +69,15 @@ invariant_of-result c =
     let text = c.requires.text in
     let right = c.requires.right in
     let same = c.requires.known in
-    let definitions_are = ap (λ (b : DefinitionBook). b.list) c.from_vec.ensures ∙ c.in_ok-definitions.ensures.value ∙ (λ i. map (definition_value (same i)) (map definition_of (c.deref.ensures.value i))) in
+    let definitions_are = ap (λ (b : DefinitionBook). b.list) c.from_vec.ensures ∙ c.in_ok-definitions.ensures.value
+    ∙ (λ i. map (definition_value (same i)) (map definition_of (c.deref.ensures.value i))) in
     let lines_are = c.in_ok-program.ensures ∙ (λ i. program_value (c.deref-2.ensures.value i)) in
     let goal_is = c.in_ok-goal.ensures ∙ (λ i. goal_value (same i) p.goal) in
     let limit_is = ap (λ (b : DefinitionBook). b.most) c.from_vec.ensures ∙ c.most_spatial.ensures.value in
     record {
       limit = limit_is;
-      within = ∣ said_within p text right c.from_vec.result.most c.from_vec.result.list c.in_ok-program.program c.in_ok-goal.goal limit_is definitions_are lines_are goal_is ∣₁;
+      within = ∣ said_within p text right c.from_vec.result.most c.from_vec.result.list c.in_ok-program.program
+          c.in_ok-goal.goal limit_is definitions_are lines_are goal_is ∣₁;
       closed = (λ i. closed_fault (definitions_are i)) ∙ is_closed p text right;
       known = (λ i. goal_fault (definitions_are i) (goal_is i)) ∙ is_known p text right;
       universal = (λ i. is_universal_heap (antecedent (goal_is i))) ∙ has_universal_antecedent p text right;

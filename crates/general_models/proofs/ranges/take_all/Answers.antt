@@ -8,4 +8,5 @@ loop-value-init c = none_taken c.args.numbers.now.keys
 pub loop-value-preserved : goal.loop-value-preserved
 loop-value-preserved c =
     let h : c.loop-value.value-index < length c.args.values.now = omega arith in
-    next_taken c.args.numbers.now.keys c.loop-value.numbers.keys c.take.new.numbers.keys c.args.values.now c.loop-value.value-index h c.loop-value.invariant c.in_ok-take.ensures
+    next_taken c.args.numbers.now.keys c.loop-value.numbers.keys c.take.new.numbers.keys c.args.values.now
+    c.loop-value.value-index h c.loop-value.invariant c.in_ok-take.ensures

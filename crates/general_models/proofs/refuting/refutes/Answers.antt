@@ -11,6 +11,9 @@ returns-then-not-holds c = record {
 
 pub returns : goal.returns
 returns c = record {
-  exact = IfOk-weaker c.none_satisfied.result _ _ (λ q j. held c.in_ok-holds.holds q c.if-not-holds.false c.in_ok-holds.ensures.exact j) c.none_satisfied.ensures;
-  refuted = IfOk-weaker c.none_satisfied.result _ _ (λ q j t entails. j.0 t (entails c.args.stack.now c.args.heap.now (c.in_ok-holds.ensures.exact.0 c.if-not-holds.false))) c.none_satisfied.ensures;
+  exact = IfOk-weaker c.none_satisfied.result _ _
+      (λ q j. held c.in_ok-holds.holds q c.if-not-holds.false c.in_ok-holds.ensures.exact j) c.none_satisfied.ensures;
+  refuted = IfOk-weaker c.none_satisfied.result _ _
+      (λ q j t entails. j.0 t (entails c.args.stack.now c.args.heap.now
+      (c.in_ok-holds.ensures.exact.0 c.if-not-holds.false))) c.none_satisfied.ensures;
 }

@@ -7,5 +7,12 @@ use Rattle.goto_lang.proofs.steps.stored.Goals as goal
 
 pub returns : goal.returns
 returns c =
-    let f = some_field c.in-Some.fields.now c.args.k (omega arith) (omega arith) in
-    (c.in-Some.fields.now, f.0, c.in-Some.ensures.value, f.1, c.in_ok-with_cell.ensures ∙ ap (λ fs. next_line (state_of c.args.config.now) c.args.config.now.stack (insert c.args.config.now.heap c.args.address fs)) c.in_ok-fields.ensures)
+    let f = some_field c.in-Some.fields.now c.args.k (omega arith) (omega arith) in (
+      c.in-Some.fields.now,
+      f.0,
+      c.in-Some.ensures.value,
+      f.1,
+      c.in_ok-with_cell.ensures
+          ∙ ap (λ fs. next_line (state_of c.args.config.now) c.args.config.now.stack
+          (insert c.args.config.now.heap c.args.address fs)) c.in_ok-fields.ensures,
+    )

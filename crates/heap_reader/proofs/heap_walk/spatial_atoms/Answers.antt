@@ -6,8 +6,13 @@ use Rattle.heap_reader.proofs.heap_walk.spatial_atoms.Goals as goal
 
 pub loop-n-preserved : goal.loop-n-preserved
 loop-n-preserved g c =
-    passed_of spatial_of (spatial_flaw (g.F.TermReader.flaw c.args.form.now) g.F.TermReader.span c.args.most c.args.heads.now) (spatial_span g.F.TermReader.span) c.loop-n.n c.loop-n.next c.in_ok-next.next c.args.trees.now c.index-trees-n.result _ _ c.loop-n-test.true c.index-trees-n.is c.in_ok-next.ensures c.loop-n.invariant
+    passed_of spatial_of (spatial_flaw (g.F.TermReader.flaw c.args.form.now)
+    g.F.TermReader.span c.args.most c.args.heads.now) (spatial_span g.F.TermReader.span)
+    c.loop-n.n c.loop-n.next c.in_ok-next.next c.args.trees.now c.index-trees-n.result _ _ c.loop-n-test.true
+    c.index-trees-n.is c.in_ok-next.ensures c.loop-n.invariant
 
 pub spatial_atom-requires : goal.spatial_atom-requires
 spatial_atom-requires g c =
-    fits_of spatial_of (spatial_span g.F.TermReader.span) c.loop-n.n c.loop-n.next _ c.args.trees.now c.index-trees-n.result _ c.loop-n-test.true c.index-trees-n.is c.loop-n.invariant.1 c.requires
+    fits_of spatial_of (spatial_span g.F.TermReader.span)
+    c.loop-n.n c.loop-n.next _ c.args.trees.now c.index-trees-n.result _ c.loop-n-test.true c.index-trees-n.is
+    c.loop-n.invariant.1 c.requires

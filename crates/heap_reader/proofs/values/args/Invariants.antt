@@ -5,4 +5,5 @@ use Rattle.heap_reader.proofs.values.args.Given as goal
 
 abbrev pub invariant-loop-i : goal.invariant-loop-i
 invariant-loop-i g l =
-    (length l.terms ≡ 8) × (take l.i l.terms ≡ map g.F.TermReader.value (take l.i l.trees)) × Each (IsSmall g.F.TermReader.value) (drop l.i l.trees)
+    (length l.terms ≡ 8) × (take l.i l.terms ≡ map g.F.TermReader.value (take l.i l.trees))
+    × Each (IsSmall g.F.TermReader.value) (drop l.i l.trees)

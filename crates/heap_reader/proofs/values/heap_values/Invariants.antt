@@ -7,4 +7,5 @@ use Rattle.heap_reader.proofs.values.heap_values.Given as goal
 
 abbrev pub invariant-loop-tree : goal.invariant-loop-tree
 invariant-loop-tree g l =
-    (l.heaps.items ≡ map (heap_value g.F.TermReader.value l.heads) (map heap_of (take l.tree-index l.trees))) × Each (IsSmallHeap g.F.TermReader.value) (map heap_of (drop l.tree-index l.trees))
+    (l.heaps.items ≡ map (heap_value g.F.TermReader.value l.heads) (map heap_of (take l.tree-index l.trees)))
+    × Each (IsSmallHeap g.F.TermReader.value) (map heap_of (drop l.tree-index l.trees))

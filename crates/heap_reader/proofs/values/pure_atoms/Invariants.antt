@@ -6,4 +6,5 @@ use Rattle.heap_reader.proofs.values.pure_atoms.Given as goal
 
 abbrev pub invariant-loop-tree : goal.invariant-loop-tree
 invariant-loop-tree g l =
-    (l.atoms.items ≡ map (pure_value g.F.TermReader.value) (take l.tree-index l.trees)) × Each (IsSmallPure g.F.TermReader.value) (drop l.tree-index l.trees)
+    (l.atoms.items ≡ map (pure_value g.F.TermReader.value) (take l.tree-index l.trees))
+    × Each (IsSmallPure g.F.TermReader.value) (drop l.tree-index l.trees)

@@ -5,13 +5,27 @@ use Rattle.heap_reader.proofs.Loops.{made_of, left_of, here_of, all_made_of}
 use Rattle.heap_reader.proofs.values.spatial_atoms.Goals as goal
 
 pub loop-tree-preserved : goal.loop-tree-preserved
-loop-tree-preserved g c =
-    (made_of spatial_of (spatial_value g.F.TermReader.value c.args.heads.now) c.args.trees.now c.loop-tree.tree-index c.tree-item.result c.loop-tree.atoms.items c.push.new.self.items c.spatial_atom.result c.loop-tree-test.true c.tree-item.is c.spatial_atom.ensures c.in_ok-push.ensures.items c.loop-tree.invariant.0, left_of spatial_of (IsSmallSpatial g.F.TermReader.value) c.args.trees.now c.loop-tree.tree-index c.tree-item.result c.loop-tree-test.true c.tree-item.is c.loop-tree.invariant.1)
+loop-tree-preserved g c = (
+  made_of spatial_of (spatial_value g.F.TermReader.value c.args.heads.now)
+      c.args.trees.now c.loop-tree.tree-index c.tree-item.result c.loop-tree.atoms.items c.push.new.self.items
+      c.spatial_atom.result c.loop-tree-test.true c.tree-item.is c.spatial_atom.ensures c.in_ok-push.ensures.items
+      c.loop-tree.invariant.0,
+  left_of spatial_of (IsSmallSpatial g.F.TermReader.value)
+      c.args.trees.now c.loop-tree.tree-index c.tree-item.result c.loop-tree-test.true c.tree-item.is
+      c.loop-tree.invariant.1,
+)
 
 pub spatial_atom-requires : goal.spatial_atom-requires
-spatial_atom-requires g c = record { small = here_of spatial_of (IsSmallSpatial g.F.TermReader.value) c.args.trees.now c.loop-tree.tree-index c.tree-item.result c.loop-tree-test.true c.tree-item.is c.loop-tree.invariant.1; few = c.requires.few }
+spatial_atom-requires g c = record {
+  small = here_of spatial_of (IsSmallSpatial g.F.TermReader.value)
+      c.args.trees.now c.loop-tree.tree-index c.tree-item.result c.loop-tree-test.true c.tree-item.is
+      c.loop-tree.invariant.1;
+  few = c.requires.few;
+}
 
 pub returns : goal.returns
 returns g c =
-    let all = all_made_of spatial_of (spatial_value g.F.TermReader.value c.args.heads.now) c.args.trees.now c.loop-tree.tree-index c.loop-tree.atoms.items c.loop-tree-test.false c.loop-tree.invariant.0 in
+    let all = all_made_of spatial_of (spatial_value g.F.TermReader.value c.args.heads.now)
+    c.args.trees.now c.loop-tree.tree-index c.loop-tree.atoms.items c.loop-tree-test.false c.loop-tree.invariant.0
+    in
     record { value = all.0; size = all.1 }

@@ -7,4 +7,5 @@ use Rattle.heap_reader.proofs.values.spatial_atoms.Given as goal
 
 abbrev pub invariant-loop-tree : goal.invariant-loop-tree
 invariant-loop-tree g l =
-    (l.atoms.items ≡ map (spatial_value g.F.TermReader.value l.heads) (map spatial_of (take l.tree-index l.trees))) × Each (IsSmallSpatial g.F.TermReader.value) (map spatial_of (drop l.tree-index l.trees))
+    (l.atoms.items ≡ map (spatial_value g.F.TermReader.value l.heads) (map spatial_of (take l.tree-index l.trees)))
+    × Each (IsSmallSpatial g.F.TermReader.value) (map spatial_of (drop l.tree-index l.trees))

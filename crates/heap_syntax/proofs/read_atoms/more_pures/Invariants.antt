@@ -9,4 +9,6 @@ use Rattle.heap_syntax.proofs.read_atoms.more_pures.Given as goal
 
 abbrev pub invariant-loop : goal.invariant-loop
 invariant-loop g l =
-    IsReading l.keep (is_one comma) (after comma (pure (g.F.TermForm.terms l.form).syntax)) (pure_of g.F.TermForm.seen l.fn.first) l.fn.cursor (map (pure_of g.F.TermForm.seen) l.items.items) (length l.fn.cursor - l.counter) l.cursor
+    IsReading l.keep (is_one comma) (after comma (pure (g.F.TermForm.terms l.form).syntax))
+    (pure_of g.F.TermForm.seen l.fn.first) l.fn.cursor (map (pure_of g.F.TermForm.seen) l.items.items)
+    (length l.fn.cursor - l.counter) l.cursor

@@ -7,5 +7,8 @@ use Rattle.heap_syntax.proofs.read_atoms.more_terms.Given as goal
 
 abbrev pub invariant-loop : goal.invariant-loop
 invariant-loop g l =
-    with_front (map g.F.TermForm.seen l.items.items) (read_many (is_one comma) (after comma (g.F.TermForm.terms l.form).syntax) (length l.fn.cursor - l.counter) l.cursor)
-    ≡ with_front (map g.F.TermForm.seen l.fn.items.items) (read_many (is_one comma) (after comma (g.F.TermForm.terms l.form).syntax) (length l.fn.cursor) l.fn.cursor)
+    with_front (map g.F.TermForm.seen l.items.items)
+    (read_many (is_one comma) (after comma (g.F.TermForm.terms l.form).syntax) (length l.fn.cursor - l.counter)
+    l.cursor)
+    ≡ with_front (map g.F.TermForm.seen l.fn.items.items)
+    (read_many (is_one comma) (after comma (g.F.TermForm.terms l.form).syntax) (length l.fn.cursor) l.fn.cursor)

@@ -8,4 +8,5 @@ use Rattle.heap_syntax.proofs.read_heaps.more_spatials.Given as goal
 
 abbrev pub invariant-loop : goal.invariant-loop
 invariant-loop g l =
-    IsReading l.keep (is_one star) (after star ((g.F.TermForm.atoms l.form))) (spatial_of g.F.TermForm.seen l.fn.first) l.fn.cursor (map (spatial_of g.F.TermForm.seen) l.items.items) (length l.fn.cursor - l.counter) l.cursor
+    IsReading l.keep (is_one star) (after star ((g.F.TermForm.atoms l.form))) (spatial_of g.F.TermForm.seen l.fn.first)
+    l.fn.cursor (map (spatial_of g.F.TermForm.seen) l.items.items) (length l.fn.cursor - l.counter) l.cursor

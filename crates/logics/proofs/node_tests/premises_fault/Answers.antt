@@ -8,4 +8,6 @@ loop-i-preserved g c =
     let us = c.args.numbers.now in
     let i = c.loop-i.i in
     let in_us : i < length us = omega (arith, c.requires.sizes, c.loop-i-test.true) in
-    premise_step (g.L.Logic.logic c.args.logic.now) c.args.nodes.now c.args.v ps us i c.index-premises-i.result c.loop-i-test.true in_us (sym c.index-premises-i.is) (sym c.premise_fault.ensures ∙ c.in_default.is) ∙ c.loop-i.invariant
+    premise_step (g.L.Logic.logic c.args.logic.now)
+    c.args.nodes.now c.args.v ps us i c.index-premises-i.result c.loop-i-test.true in_us (sym c.index-premises-i.is)
+    (sym c.premise_fault.ensures ∙ c.in_default.is) ∙ c.loop-i.invariant

@@ -5,4 +5,5 @@ use Rattle.match_frame.proofs.choose.premises_choose.Goals as goal
 
 pub returns-clause-sound : goal.returns-clause-sound
 returns-clause-sound c =
-    sound_answer_all c.args.judgement.now c.choose.result (choose_answer c.args.judgement.now c.args.k) c.choose.ensures (λ ds lines. choose_is_sound ds lines c.args.judgement.now c.args.k)
+    sound_answer_all c.args.judgement.now c.choose.result (choose_answer c.args.judgement.now c.args.k) c.choose.ensures
+    (λ ds lines. choose_is_sound ds lines c.args.judgement.now c.args.k)

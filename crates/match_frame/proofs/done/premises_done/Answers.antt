@@ -5,4 +5,5 @@ use Rattle.match_frame.proofs.done.premises_done.Goals as goal
 
 pub returns-clause-sound : goal.returns-clause-sound
 returns-clause-sound c =
-    sound_answer_all c.args.judgement.now c.done.result (done_answer c.args.judgement.now) c.done.ensures (λ ds lines. done_is_sound ds lines c.args.judgement.now)
+    sound_answer_all c.args.judgement.now c.done.result (done_answer c.args.judgement.now) c.done.ensures
+    (λ ds lines. done_is_sound ds lines c.args.judgement.now)

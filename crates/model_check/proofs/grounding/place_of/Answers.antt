@@ -5,4 +5,5 @@ pub returns-in-Some : goal.returns-in-Some
 returns-in-Some c = place_found c.args.places.now.keys c.args.address c.in-Some.i c.in-Some.ensures.index
 
 pub returns-in-None : goal.returns-in-None
-returns-in-None c = place_missing c.args.places.now.keys c.args.address c.len.result c.len.ensures.len c.in-None.ensures.index
+returns-in-None c = place_missing c.args.places.now.keys c.args.address c.len.result c.len.ensures.len
+    c.in-None.ensures.index

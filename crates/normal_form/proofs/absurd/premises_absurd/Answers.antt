@@ -5,4 +5,5 @@ use Rattle.normal_form.proofs.absurd.premises_absurd.Goals as goal
 
 pub returns-clause-sound : goal.returns-clause-sound
 returns-clause-sound c =
-    sound_answer_all c.args.judgement.now c.absurd.result (absurd_answer c.args.judgement.now) c.absurd.ensures (λ ds lines. absurd_is_sound ds lines c.args.judgement.now)
+    sound_answer_all c.args.judgement.now c.absurd.result (absurd_answer c.args.judgement.now) c.absurd.ensures
+    (λ ds lines. absurd_is_sound ds lines c.args.judgement.now)

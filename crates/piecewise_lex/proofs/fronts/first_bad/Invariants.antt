@@ -6,7 +6,9 @@ use Rattle.piecewise_lex.proofs.TakingLaws.{FailsWith}
 use Rattle.piecewise_lex.proofs.fronts.first_bad.Given as goal
 
 abbrev pub invariant-pieces : goal.invariant-pieces
-invariant-pieces l = FailsWith (lex false l.place 0 (chars l.rest)) (lex false l.fn.place (comment_len l.fn.comment (chars l.fn.text)) (chars l.fn.text)) × HasRoom l.place (length l.rest) × IsUtf8 l.rest
+invariant-pieces l = FailsWith (lex false l.place 0 (chars l.rest))
+    (lex false l.fn.place (comment_len l.fn.comment (chars l.fn.text)) (chars l.fn.text))
+    × HasRoom l.place (length l.rest) × IsUtf8 l.rest
 
 abbrev pub decreases-pieces : goal.decreases-pieces
 decreases-pieces l = length l.rest

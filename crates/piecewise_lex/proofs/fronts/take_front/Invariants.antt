@@ -7,7 +7,8 @@ use Rattle.piecewise_lex.proofs.fronts.take_front.Given as goal
 
 abbrev pub invariant-tokens : goal.invariant-tokens
 invariant-tokens l = record {
-  taken : HasTaken (reading l.fn.place l.fn.comment l.fn.text) (map owned l.tokens.items) (reading l.place l.comment l.rest);
+  taken : HasTaken (reading l.fn.place l.fn.comment l.fn.text) (map owned l.tokens.items)
+      (reading l.place l.comment l.rest);
   room : HasRoom l.place (length l.rest);
   utf8 : IsUtf8 l.rest;
 }

@@ -6,7 +6,8 @@ use Rattle.piecewise_lex.proofs.spans.take_statement.Given as goal
 
 abbrev pub invariant-tokens : goal.invariant-tokens
 invariant-tokens l = record {
-  passing : IsPassing (reading l.fn.place l.fn.comment l.fn.text) l.span.tokens l.span.place l.span.comment l.span.rest.now l.kept.items;
+  passing : IsPassing (reading l.fn.place l.fn.comment l.fn.text)
+      l.span.tokens l.span.place l.span.comment l.span.rest.now l.kept.items;
   going : l.span.ended ≡ false;
 }
 

@@ -30,5 +30,6 @@ returns-in-Ok-from_utf8 c =
       text = chars-front bytes c.in-Ok-from_utf8.text.now c.valid_up_to.result n-is same;
       size = size-front bytes c.in-Ok-from_utf8.text.now c.valid_up_to.result n-is same;
       tail = c.split_at.ensures.back ∙ ap (λ k. drop k bytes) n-is;
-      cut = not-flip _ _ c.is_none.ensures ∙ ap is_none (c.error_len.ensures ∙ c.in-Err.ensures.fault ∙ ap (λ k. utf8_error_len (drop k bytes)) c.in-Err.ensures.valid_len);
+      cut = not-flip _ _ c.is_none.ensures ∙ ap is_none (c.error_len.ensures ∙ c.in-Err.ensures.fault
+          ∙ ap (λ k. utf8_error_len (drop k bytes)) c.in-Err.ensures.valid_len);
     }

@@ -5,4 +5,5 @@ use Rattle.pred_defs.specs.Bodies.{body_term, first_fresh}
 use Rattle.pred_defs.proofs.bodies.of_args.Given as goal
 
 abbrev pub invariant-loop-i : goal.invariant-loop-i
-invariant-loop-i l = (length l.made ≡ 8) × (take l.i l.made ≡ map (body_term l.args l.fresh) (take l.i l.terms)) × (first_fresh l.fresh + max_of (map exist_bound (drop l.i l.terms)) ≤ 65536)
+invariant-loop-i l = (length l.made ≡ 8) × (take l.i l.made ≡ map (body_term l.args l.fresh) (take l.i l.terms))
+    × (first_fresh l.fresh + max_of (map exist_bound (drop l.i l.terms)) ≤ 65536)

@@ -6,4 +6,5 @@ use Rattle.pred_defs.specs.Bodies.{body_term, first_fresh}
 use Rattle.pred_defs.proofs.bodies.of_spatials.Given as goal
 
 abbrev pub invariant-loop-atom : goal.invariant-loop-atom
-invariant-loop-atom l = (l.made.items ≡ map (in_spatial (body_term l.args l.fresh)) (take l.atom-index l.atoms)) × (first_fresh l.fresh + max_of (map spatial_exists (drop l.atom-index l.atoms)) ≤ 65536)
+invariant-loop-atom l = (l.made.items ≡ map (in_spatial (body_term l.args l.fresh)) (take l.atom-index l.atoms))
+    × (first_fresh l.fresh + max_of (map spatial_exists (drop l.atom-index l.atoms)) ≤ 65536)

@@ -10,5 +10,8 @@ use Rattle.problem_syntax.proofs.read_definitions.definitions.Goals as goal
 pub returns : goal.returns
 returns c =
     let read = definitions.read c.args.cursor.now in
-    let same : with_front (map definition_of c.new.result.items) read ≡ read = ap (λ (front : List Definition). with_front front read) (ap (map definition_of) c.new.ensures.items) ∙ with_front-nil read in
-    subst (λ (r : Reading (List Definition)). Gives (λ x. (map definition_of x.items, c.more_definitions.new.cursor)) c.more_definitions.result r) same c.more_definitions.ensures
+    let same : with_front (map definition_of c.new.result.items) read
+    ≡ read = ap (λ (front : List Definition). with_front front read) (ap (map definition_of) c.new.ensures.items)
+    ∙ with_front-nil read in
+    subst (λ (r : Reading (List Definition)). Gives (λ x. (map definition_of x.items, c.more_definitions.new.cursor))
+    c.more_definitions.result r) same c.more_definitions.ensures

@@ -9,5 +9,7 @@ use Rattle.problem_syntax.proofs.read_definitions.more_definitions.Given as goal
 
 abbrev pub invariant-loop : goal.invariant-loop
 invariant-loop l =
-    with_front (map definition_of l.items.items) (read_many (is_one pred_word) definition (length l.fn.cursor - l.counter) l.cursor)
-    ≡ with_front (map definition_of l.fn.items.items) (read_many (is_one pred_word) definition (length l.fn.cursor) l.fn.cursor)
+    with_front (map definition_of l.items.items) (read_many (is_one pred_word) definition
+    (length l.fn.cursor - l.counter) l.cursor)
+    ≡ with_front (map definition_of l.fn.items.items)
+    (read_many (is_one pred_word) definition (length l.fn.cursor) l.fn.cursor)

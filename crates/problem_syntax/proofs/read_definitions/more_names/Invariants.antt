@@ -8,5 +8,7 @@ use Rattle.problem_syntax.proofs.read_definitions.more_names.Given as goal
 
 abbrev pub invariant-loop : goal.invariant-loop
 invariant-loop l =
-    with_front (map text_of l.items.items) (read_many (is_one comma) (after comma (one free_name)) (length l.fn.cursor - l.counter) l.cursor)
-    ≡ with_front (map text_of l.fn.items.items) (read_many (is_one comma) (after comma (one free_name)) (length l.fn.cursor) l.fn.cursor)
+    with_front (map text_of l.items.items) (read_many (is_one comma) (after comma (one free_name))
+    (length l.fn.cursor - l.counter) l.cursor)
+    ≡ with_front (map text_of l.fn.items.items) (read_many (is_one comma) (after comma (one free_name))
+    (length l.fn.cursor) l.fn.cursor)

@@ -1,7 +1,7 @@
 use Rattle.std.proofs.Common.{arith}
 use Rattle.std.proofs.lemmas.Result.{IfOk-weaker}
 use Rattle.logics.specs.Verdicts.{IsVerdict as IsVerdictOn}
-use Rattle.node_reasons.specs.SeparationLogic.{Holds}
+use Rattle.rule_book.specs.SeparationLogic.{Holds}
 use Rattle.proof_check.specs.Verdicts.{logic_of, IsVerdict}
 use Rattle.proof_check.proofs.Readable.{file_stands}
 use Rattle.proof_check.proofs.Checked.{verdict_on_file}
@@ -19,4 +19,5 @@ check_proof-requires-clause-stand c = rw c.as_slice.ensures (file_stands c.args.
 pub returns : goal.returns
 returns c =
     let f = c.args.file.now in
-    IfOk-weaker c.check_proof.result (IsVerdictOn (logic_of f) (Holds f.defs.list f.program) f.nodes) (IsVerdict f) (verdict_on_file f) (rw c.as_slice.ensures at c.check_proof.ensures)
+    IfOk-weaker c.check_proof.result (IsVerdictOn (logic_of f) (Holds f.defs.list f.program) f.nodes) (IsVerdict f)
+    (verdict_on_file f) (rw c.as_slice.ensures at c.check_proof.ensures)

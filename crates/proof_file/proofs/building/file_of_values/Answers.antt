@@ -9,7 +9,7 @@ use Rattle.proof_file.specs.FileNodes.{FileNode}
 use Rattle.proof_file.specs.Readable.{are_readable, are_universal_commands, are_at_lines, all_have_few_cases}
 use Rattle.proof_file.specs.Flaws.{headings, file_flaw}
 use Rattle.proof_file.specs.Written.{tree_of}
-use Rattle.line_reader.specs.Values.{program_value}
+use Rattle.heap_reader.specs.LineValues.{program_value}
 use Rattle.proof_file.specs.Values.{node_value}
 use Rattle.proof_file.proofs.Fitting.{file_small}
 use Rattle.proof_file.proofs.SpanLaws.{nodes_some, file_some}
@@ -32,16 +32,19 @@ invariant_of-result c =
     let few = small.nodes_few in
     let hs = headings f.definitions in
     let nodes_are = c.from_vec.ensures ∙ said.nodes in
-    let same : f ≡ tree_of c.args.version c.args.defs.list c.args.program c.from_vec.result = sym ((λ i. tree_of (said.version i) (said.definitions i) (said.program i) (nodes_are i)) ∙ tree_again f right) in
+    let same : f ≡ tree_of c.args.version c.args.defs.list c.args.program c.from_vec.result = sym
+    ((λ i. tree_of (said.version i) (said.definitions i) (said.program i) (nodes_are i)) ∙ tree_again f right) in
     let size = length-map f.nodes (node_value hs) in
     let count = ap length said.program ∙ lines_size f.lines in
     record {
       some = omega (arith, some, size, ap length nodes_are);
       few = omega (arith, few, size, ap length nodes_are);
       readable = subst (λ (ns : List FileNode). are_readable ns ≡ true) (sym nodes_are) (nodes_readable f fits);
-      universal = subst (λ (cs : List Command). are_universal_commands cs ≡ true) (sym said.program) (commands_universal f.lines);
+      universal = subst (λ (cs : List Command). are_universal_commands cs ≡ true) (sym said.program)
+          (commands_universal f.lines);
       at_lines = (λ i. are_at_lines (count i) (nodes_are i)) ∙ file_at_lines f right;
-      cases = subst (λ (ds : List DefinitionValue). all_have_few_cases ds ≡ true) (sym said.definitions) (cases_few f.definitions hs small.definitions);
+      cases = subst (λ (ds : List DefinitionValue). all_have_few_cases ds ≡ true) (sym said.definitions)
+          (cases_few f.definitions hs small.definitions);
       limit = said.most ∙ ap most_spatial (sym said.version);
       fits = subst (λ (t : File). file.fits t) same fits;
       flawless = ap file_flaw (sym same) ∙ right;

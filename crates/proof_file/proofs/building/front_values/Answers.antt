@@ -1,17 +1,18 @@
 use Rattle.std.proofs.Common.{map, arith}
 use Rattle.std.proofs.lemmas.List.{length-map}
-use Rattle.line_reader.proofs.Programs.{lines_are_program}
+use Rattle.heap_reader.proofs.Programs.{lines_are_program}
 use Rattle.proof_syntax.specs.Trees.{definition_of}
 use Rattle.proof_file.specs.Building.{front_of}
 use Rattle.proof_file.specs.Flaws.{variable_flaw, first_line}
 use Rattle.proof_file.specs.Spans.{variable_span}
-use Rattle.line_reader.specs.Values.{variable_value}
+use Rattle.heap_reader.specs.LineValues.{variable_value}
 use Rattle.proof_file.proofs.Fitting.{variable_few, file_parts, file_small, few_heads}
 use Rattle.proof_file.proofs.building.front_values.Goals as goal
 
 pub definition_values-requires-clause-small : goal.definition_values-requires-clause-small
 definition_values-requires-clause-small c =
-    (file_small (front_of c.args.version (map definition_of c.args.definitions.now) c.args.lines.now) tt c.requires.right).definitions
+    (file_small (front_of c.args.version (map definition_of c.args.definitions.now) c.args.lines.now)
+    tt c.requires.right).definitions
 
 pub definition_values-requires-clause-few : goal.definition_values-requires-clause-few
 definition_values-requires-clause-few c =
@@ -27,4 +28,5 @@ from_vec-defs-requires-clause-few c =
 pub program-requires : goal.program-requires
 program-requires c =
     let f = front_of c.args.version (map definition_of c.args.definitions.now) c.args.lines.now in
-    lines_are_program variable_flaw variable_span variable_value variable_few (first_line f) f.lines (file_parts f c.requires.right).1
+    lines_are_program variable_flaw variable_span variable_value variable_few (first_line f) f.lines
+    (file_parts f c.requires.right).1

@@ -7,5 +7,7 @@ use Rattle.proof_graph.proofs.traces.edges_with.Goals as goal
 
 pub returns : goal.returns
 returns c =
-    sym (ap (λ ls. c.loop-pairs.edges.items ++ edges_of (premises_of c.args.slot ls)) (drop_all c.loop-pairs.pairs-index c.args.lists.now c.loop-pairs-test.false) ∙ append-nil c.loop-pairs.edges.items)
+    sym (ap (λ ls. c.loop-pairs.edges.items ++ edges_of (premises_of c.args.slot ls))
+    (drop_all c.loop-pairs.pairs-index c.args.lists.now c.loop-pairs-test.false)
+    ∙ append-nil c.loop-pairs.edges.items)
     ∙ c.loop-pairs.invariant.made

@@ -6,5 +6,6 @@ use Rattle.proof_graph.proofs.traces.edges_with.Given as goal
 abbrev pub invariant-loop-pairs : goal.invariant-loop-pairs
 invariant-loop-pairs l = record {
   same : l.slot ≡ l.fn.slot;
-  made : l.edges.items ++ edges_of (premises_of l.fn.slot (drop l.pairs-index l.lists)) ≡ edges_of (premises_of l.fn.slot l.lists);
+  made : l.edges.items ++ edges_of (premises_of l.fn.slot (drop l.pairs-index l.lists))
+      ≡ edges_of (premises_of l.fn.slot l.lists);
 }

@@ -9,8 +9,10 @@ use Rattle.proof_graph.proofs.traces.traces_with.Goals as goal
 pub loop-i-preserved : goal.loop-i-preserved
 loop-i-preserved c =
     let given = with_reason c.args.reason.now c.args.pairs.now in
-    let there = slice_get_read c.args.nodes.now (length c.args.nodes.now) c.loop-i.i c.index-nodes-i.result refl c.loop-i-test.true c.index-nodes-i.is in
-    graph_more (changed_at given c.args.nodes.now c.args.place) c.loop-i.i _ c.in_ok-trace_node_given.field-0 c.loop-i.graph c.push.new.self
+    let there = slice_get_read c.args.nodes.now (length c.args.nodes.now)
+    c.loop-i.i c.index-nodes-i.result refl c.loop-i-test.true c.index-nodes-i.is in
+    graph_more (changed_at given c.args.nodes.now c.args.place)
+    c.loop-i.i _ c.in_ok-trace_node_given.field-0 c.loop-i.graph c.push.new.self
     (changed_there given c.args.nodes.now c.args.place c.loop-i.i c.index-nodes-i.result there)
     c.in_ok-trace_node_given.ensures c.in_ok-push.ensures.ok c.loop-i.invariant
 

@@ -10,13 +10,20 @@ use Rattle.proof_picture.proofs.labels.label_of.Goals as goal
 
 pub statement-requires : goal.statement-requires
 statement-requires c =
-    let told = subst (λ (bs : List ℕ). tokens_of bs ≡ Ok c.in_ok-tokens.tokens) c.deref.ensures.value c.in_ok-tokens.ensures.0 in
-    let both = tokens_between (node_of c.args.node) c.in_ok-text.text.items c.in_ok-tokens.tokens c.as_slice.result.now c.in_ok-text.ensures told c.as_slice.ensures in
+    let told = subst (λ (bs : List ℕ). tokens_of bs ≡ Ok c.in_ok-tokens.tokens)
+    c.deref.ensures.value c.in_ok-tokens.ensures.0 in
+    let both = tokens_between (node_of c.args.node)
+    c.in_ok-text.text.items c.in_ok-tokens.tokens c.as_slice.result.now c.in_ok-text.ensures told c.as_slice.ensures
+    in
     both.0
 
 pub returns : goal.returns
 returns c =
-    let told = subst (λ (bs : List ℕ). tokens_of bs ≡ Ok c.in_ok-tokens.tokens) c.deref.ensures.value c.in_ok-tokens.ensures.0 in
-    let both = tokens_between (node_of c.args.node) c.in_ok-text.text.items c.in_ok-tokens.tokens c.as_slice.result.now c.in_ok-text.ensures told c.as_slice.ensures in
+    let told = subst (λ (bs : List ℕ). tokens_of bs ≡ Ok c.in_ok-tokens.tokens)
+    c.deref.ensures.value c.in_ok-tokens.ensures.0 in
+    let both = tokens_between (node_of c.args.node)
+    c.in_ok-text.text.items c.in_ok-tokens.tokens c.as_slice.result.now c.in_ok-text.ensures told c.as_slice.ensures
+    in
     let words = ap (map word) c.statement.ensures ∙ both.1 in
-    subst (λ (ws : List Word). IfOk c.lay_out.result (λ v. map piece_of v.items ≡ label c.args.flags.now ws)) words c.lay_out.ensures
+    subst (λ (ws : List Word). IfOk c.lay_out.result (λ v. map piece_of v.items ≡ label c.args.flags.now ws))
+    words c.lay_out.ensures

@@ -15,7 +15,11 @@ labels_of_trees-requires c = all_fit (file_of c.in-Ok.tree) c.in-Ok.ensures.exac
 pub returns-in-Ok : goal.returns-in-Ok
 returns-in-Ok c =
     let f = c.args.file.now in
-    let told = subst (λ (bs : List ℕ). tokens_of bs ≡ Ok c.in_ok-tokens.tokens) c.deref.ensures.value c.in_ok-tokens.ensures.0 in
+    let told = subst (λ (bs : List ℕ). tokens_of bs ≡ Ok c.in_ok-tokens.tokens)
+    c.deref.ensures.value c.in_ok-tokens.ensures.0 in
     let words = file_spelled f c.in_ok-text.text.items c.in_ok-tokens.tokens c.in_ok-text.ensures.text told in
-    let same = ap (λ (t : File). t.nodes) (c.in-Ok.ensures.again (tree_of f.version f.defs.list f.program f.nodes) f.fits words) in
-    subst (λ (ns : List Node). IfOk c.labels_of_trees.result (λ v. map pieces_of v.items ≡ labels_of (map flags_of c.args.flags.now.items) 0 ns)) same c.labels_of_trees.ensures
+    let same = ap (λ (t : File). t.nodes) (c.in-Ok.ensures.again (tree_of f.version f.defs.list f.program f.nodes)
+    f.fits words) in
+    subst (λ (ns : List Node). IfOk c.labels_of_trees.result
+    (λ v. map pieces_of v.items ≡ labels_of (map flags_of c.args.flags.now.items) 0 ns))
+    same c.labels_of_trees.ensures

@@ -5,9 +5,12 @@ use Rattle.proof_picture.proofs.labels.text_alone.Goals as goal
 
 pub write_tree-requires : goal.write_tree-requires
 write_tree-requires c =
-    made_fits (node_of c.args.node) (map definition_of c.new-2.result.items) c.new-3.result.items (map node_of c.push.new.self.items) c.new.result.items
+    made_fits (node_of c.args.node) (map definition_of c.new-2.result.items) c.new-3.result.items
+    (map node_of c.push.new.self.items) c.new.result.items
     (ap (map definition_of) c.new-2.ensures.items)
     c.new-3.ensures.items
     c.new.ensures.items
-    (ap (map node_of) (c.in_ok-push.ensures.items ∙ ap (λ xs. xs ++ record { judgement = c.args.node.judgement; reason = c.args.node.reason; premises = c.new.result } ∷ []) c.new-nodes.ensures.items))
+    (ap (map node_of) (c.in_ok-push.ensures.items ∙ ap (λ xs. xs
+    ++ record { judgement = c.args.node.judgement; reason = c.args.node.reason; premises = c.new.result } ∷ [])
+    c.new-nodes.ensures.items))
     c.requires

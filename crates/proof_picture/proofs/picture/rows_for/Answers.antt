@@ -5,4 +5,5 @@ use Rattle.proof_picture.proofs.picture.rows_for.Goals as goal
 
 pub returns : goal.returns
 returns c =
-    subst (λ steps. IfOk c.rows.result (λ v. map row_of v.items ≡ rows_of c.args.file.now steps)) (λ i v e. c.in_ok-steps.ensures v e i) c.rows.ensures
+    subst (λ steps. IfOk c.rows.result (λ v. map row_of v.items ≡ rows_of c.args.file.now steps))
+    (λ i v e. c.in_ok-steps.ensures v e i) c.rows.ensures

@@ -7,4 +7,5 @@ pub loop-step-preserved : goal.loop-step-preserved
 loop-step-preserved c v i =
     let path = c.args.path.now in
     let k = c.loop-step.step-index in
-    one_more (take (k + 1) path) (take k path) (get_or path k _) v i _ _ _ (take_more path k _ c.loop-step-test.true) (c.in_ok-insert.ensures.updates.0 (record { node = v; edge = i })) (c.loop-step.invariant v i)
+    one_more (take (k + 1) path) (take k path) (get_or path k _) v i _ _ _ (take_more path k _ c.loop-step-test.true)
+    (c.in_ok-insert.ensures.updates.0 (record { node = v; edge = i })) (c.loop-step.invariant v i)

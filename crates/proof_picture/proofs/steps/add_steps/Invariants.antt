@@ -5,4 +5,5 @@ use Rattle.proof_picture.proofs.steps.add_steps.Given as goal
 
 -- The steps so far are kept.
 abbrev pub invariant-loop-step : goal.invariant-loop-step
-invariant-loop-step l = (v i : ℕ) → step_in l.steps.keys v i ≡ (step_in l.fn.steps.keys v i || has_step (take l.step-index l.path) v i)
+invariant-loop-step l = (v i : ℕ) → step_in l.steps.keys v i
+    ≡ (step_in l.fn.steps.keys v i || has_step (take l.step-index l.path) v i)

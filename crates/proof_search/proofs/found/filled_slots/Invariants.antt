@@ -1,5 +1,5 @@
 use Rattle.std.proofs.Common.{◌≡◌, ◌++◌, drop}
-use Rattle.search_calculus.specs.Graphs.{slots_filled}
+use Rattle.proof_search.specs.Graphs.{slots_filled}
 use Rattle.proof_search.proofs.found.filled_slots.Given as goal
 
 abbrev pub invariant-loop-premise : goal.invariant-loop-premise

@@ -1,11 +1,13 @@
 use Rattle.std.proofs.Common.{List, ap}
 use Rattle.std.specs.Prelude.{map}
-use Rattle.command_syntax.specs.Trees.{line_of}
-use Rattle.pred_syntax.proofs.SeenTrees.{gives-same}
+use Rattle.heap_syntax.specs.LineTrees.{line_of}
+use Rattle.heap_syntax.proofs.SeenTrees.{gives-same}
 use Rattle.proof_syntax.proofs.SeenTrees.{number_itself, lines-same}
 use Rattle.proof_syntax.specs.Trees.{Line}
 use Rattle.proof_syntax.specs.Grammar.{lines}
 use Rattle.proof_syntax.proofs.line_lists.lines.Goals as goal
 
 pub returns : goal.returns
-returns c = gives-same (λ x. (map (line_of number_itself) x.items, c.lines.new.cursor)) (λ x. (x.items, c.lines.new.cursor)) (λ x. ap (λ (ls : List Line). (ls, c.lines.new.cursor)) (lines-same x.items)) c.lines.result ((lines c.args.version).read c.args.cursor.now) c.lines.ensures
+returns c = gives-same (λ x. (map (line_of number_itself) x.items, c.lines.new.cursor))
+    (λ x. (x.items, c.lines.new.cursor)) (λ x. ap (λ (ls : List Line). (ls, c.lines.new.cursor)) (lines-same x.items))
+    c.lines.result ((lines c.args.version).read c.args.cursor.now) c.lines.ensures

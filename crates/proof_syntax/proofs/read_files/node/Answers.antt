@@ -6,4 +6,5 @@ use Rattle.proof_syntax.proofs.NodeFronts.{whole-node}
 use Rattle.proof_syntax.proofs.read_files.node.Goals as goal
 
 pub returns : goal.returns
-returns c = subst (λ (s : Syntax Node). Gives (λ x. (node_of x, c.kept_node.new.cursor)) c.kept_node.result (s.read c.args.cursor.now)) whole-node c.kept_node.ensures
+returns c = subst (λ (s : Syntax Node). Gives (λ x. (node_of x, c.kept_node.new.cursor)) c.kept_node.result
+    (s.read c.args.cursor.now)) whole-node c.kept_node.ensures

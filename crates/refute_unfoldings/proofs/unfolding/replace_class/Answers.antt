@@ -18,6 +18,9 @@ loop-place-preserved c =
     let d = term_eq-Decides x c.args.gone in
     let Are = (λ (v : Vec Term Global). AreSoFar c.args.gone c.args.kept from v.items (n + 1)) in
     elim c.if-eq.branch [
-      | then-eq w ↦ subst Are (sym w.classes-is) (one_replaced c.args.gone c.args.kept from to n x c.loop-place.invariant at (d.0 (sym c.eq.ensures ∙ w.if-eq.true)))
-      | else-eq w ↦ subst Are (sym w.classes-is) (one_left c.args.gone c.args.kept from to n x c.loop-place.invariant at (λ same. true≢false (sym (d.1 same) ∙ sym c.eq.ensures ∙ w.if-eq.false)))
+      | then-eq w ↦ subst Are (sym w.classes-is)
+          (one_replaced c.args.gone c.args.kept from to n x c.loop-place.invariant at
+          (d.0 (sym c.eq.ensures ∙ w.if-eq.true)))
+      | else-eq w ↦ subst Are (sym w.classes-is) (one_left c.args.gone c.args.kept from to n x c.loop-place.invariant at
+          (λ same. true≢false (sym (d.1 same) ∙ sym c.eq.ensures ∙ w.if-eq.false)))
     ]

@@ -4,4 +4,5 @@ use Rattle.ring_family.specs.Ring.{ring_block, ring_bud, in_blocks, ring_nodes, 
 use Rattle.ring_family.proofs.nodes.nodes.Given as goal
 
 abbrev pub invariant-loop-i : goal.invariant-loop-i
-invariant-loop-i l = l.nodes.items ++ file_nodes (in_blocks (ring_block l.k) (ring_bud l.k) l.i (l.k - l.i)) ≡ file_nodes (ring_nodes l.k)
+invariant-loop-i l = l.nodes.items ++ file_nodes (in_blocks (ring_block l.k) (ring_bud l.k) l.i (l.k - l.i))
+    ≡ file_nodes (ring_nodes l.k)

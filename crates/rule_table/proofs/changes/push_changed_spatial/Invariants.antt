@@ -4,4 +4,5 @@ use Rattle.rule_table.specs.Changes.{changed}
 use Rattle.rule_table.proofs.changes.push_changed_spatial.Given as goal
 
 abbrev pub invariant-loop-atom : goal.invariant-loop-atom
-invariant-loop-atom l = l.all.items ++ map (in_spatial (changed l.change)) (drop l.atom-index l.atoms) ≡ l.initial.all.items ++ map (in_spatial (changed l.change)) l.atoms
+invariant-loop-atom l = l.all.items ++ map (in_spatial (changed l.change)) (drop l.atom-index l.atoms)
+    ≡ l.initial.all.items ++ map (in_spatial (changed l.change)) l.atoms

@@ -7,4 +7,5 @@ use Rattle.rule_table.proofs.choosing.chosen_pairs.Goals as goal
 
 pub returns : goal.returns
 returns c =
-    subst (λ (xs : List Pair). IfOk c.pick_pairs.result (λ v. v ≡ xs)) (pairs_are (taken c.args.outside c.args.places.now) c.args.atoms.now) c.pick_pairs.ensures
+    subst (λ (xs : List Pair). IfOk c.pick_pairs.result (λ v. v ≡ xs))
+    (pairs_are (taken c.args.outside c.args.places.now) c.args.atoms.now) c.pick_pairs.ensures

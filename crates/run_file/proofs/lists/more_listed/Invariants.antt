@@ -7,5 +7,7 @@ use Rattle.run_file.proofs.lists.more_listed.Given as goal
 
 abbrev pub invariant-loop : goal.invariant-loop
 invariant-loop g l =
-    with_front (map g.I.Item.seen l.items.items) (read_many (is_one comma) (after comma (g.I.Item.syntax l.item)) (length l.fn.cursor - l.counter) l.cursor)
-    ≡ with_front (map g.I.Item.seen l.fn.items.items) (read_many (is_one comma) (after comma (g.I.Item.syntax l.item)) (length l.fn.cursor) l.fn.cursor)
+    with_front (map g.I.Item.seen l.items.items) (read_many (is_one comma) (after comma (g.I.Item.syntax l.item))
+    (length l.fn.cursor - l.counter) l.cursor)
+    ≡ with_front (map g.I.Item.seen l.fn.items.items)
+    (read_many (is_one comma) (after comma (g.I.Item.syntax l.item)) (length l.fn.cursor) l.fn.cursor)

@@ -7,5 +7,7 @@ use Rattle.run_file.proofs.lists.write_more_listed.Given as goal
 
 abbrev pub invariant-loop-tree : goal.invariant-loop-tree
 invariant-loop-tree g l =
-    (write_all l.writer (words_many (after comma (g.I.Item.syntax l.item)) (map g.I.Item.seen (drop l.tree-index l.trees))) ≡ write_all l.fn.writer (words_many (after comma (g.I.Item.syntax l.item)) (map g.I.Item.seen l.trees)))
+    (write_all l.writer (words_many (after comma (g.I.Item.syntax l.item))
+    (map g.I.Item.seen (drop l.tree-index l.trees))) ≡ write_all l.fn.writer
+    (words_many (after comma (g.I.Item.syntax l.item)) (map g.I.Item.seen l.trees)))
     × fits_many (after comma (g.I.Item.syntax l.item)) (map g.I.Item.seen (drop l.tree-index l.trees))

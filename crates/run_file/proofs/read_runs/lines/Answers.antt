@@ -1,7 +1,7 @@
 use Rattle.std.proofs.Common.{List, ap}
 use Rattle.std.specs.Prelude.{map}
-use Rattle.command_syntax.specs.Trees.{line_of}
-use Rattle.pred_syntax.proofs.SeenTrees.{gives-same}
+use Rattle.heap_syntax.specs.LineTrees.{line_of}
+use Rattle.heap_syntax.proofs.SeenTrees.{gives-same}
 use Rattle.proof_syntax.proofs.SeenTrees.{number_itself, lines-same}
 use Rattle.proof_syntax.specs.Trees.{Line}
 use Rattle.heap_syntax.specs.declared.version.Version.TheVariants.{Two}
@@ -9,4 +9,6 @@ use Rattle.proof_syntax.specs.Grammar.{lines}
 use Rattle.run_file.proofs.read_runs.lines.Goals as goal
 
 pub returns : goal.returns
-returns c = gives-same (λ x. (map (line_of number_itself) x.items, c.lines.new.cursor)) (λ x. (x.items, c.lines.new.cursor)) (λ x. ap (λ (ls : List Line). (ls, c.lines.new.cursor)) (lines-same x.items)) c.lines.result ((lines Two).read c.args.cursor.now) c.lines.ensures
+returns c = gives-same (λ x. (map (line_of number_itself) x.items, c.lines.new.cursor))
+    (λ x. (x.items, c.lines.new.cursor)) (λ x. ap (λ (ls : List Line). (ls, c.lines.new.cursor)) (lines-same x.items))
+    c.lines.result ((lines Two).read c.args.cursor.now) c.lines.ensures

@@ -3,19 +3,19 @@ use Rattle.std.proofs.lemmas.List.{length-map}
 use Rattle.heap_formula.specs.Words.{Each}
 use Rattle.rule_table.specs.Tests.{is_universal_heap}
 use Rattle.heap_reader.specs.Values.{heap_value}
-use Rattle.line_reader.specs.Values.{program_value}
+use Rattle.heap_reader.specs.LineValues.{program_value}
 use Rattle.heap_syntax.specs.declared.version.Version.TheVariants.{Two}
-use Rattle.pred_syntax.specs.declared.tree.DefinitionTree.{DefinitionTree}
-use Rattle.pred_syntax.specs.Trees.{definition_of}
-use Rattle.pred_reader.specs.Flaws.{heading, headings}
-use Rattle.pred_reader.specs.Values.{term_value, definition_value}
-use Rattle.pred_reader.proofs.Fitting.{definitions_small, outside_small}
+use Rattle.heap_syntax.specs.declared.definitions.tree.DefinitionTree.{DefinitionTree}
+use Rattle.heap_syntax.specs.DefinitionTrees.{definition_of}
+use Rattle.heap_reader.specs.DefinitionFlaws.{heading, headings}
+use Rattle.heap_reader.specs.DefinitionValues.{term_value, definition_value}
+use Rattle.heap_reader.proofs.DefinitionFitting.{definitions_small, outside_small}
 use Rattle.proof_file.specs.Building.{front_of}
 use Rattle.proof_file.specs.Flaws.{file_flaw}
 use Rattle.proof_file.specs.Readable.{are_universal_commands}
 use Rattle.proof_file.proofs.ReadableNodes.{commands_universal}
-use Rattle.model_syntax.specs.declared.tree.CellTree.{CellTree}
-use Rattle.model_syntax.specs.Trees.{cell_of}
+use Rattle.model_file.specs.declared.syntax.tree.CellTree.{CellTree}
+use Rattle.model_file.specs.Trees.{cell_of}
 use Rattle.model_file.specs.Small.{IsSmallCell}
 use Rattle.model_file.specs.Values.{cells_value}
 use Rattle.run_file.specs.Grammar.{run}
@@ -27,41 +27,51 @@ use Rattle.run_file.proofs.RunsAgain.{sorted, sorted_fits, sorted_flawless, tree
 use Rattle.run_file.proofs.reading.run_of_tree.Goals as goal
 
 pub front_values-requires-clause-known : goal.front_values-requires-clause-known
-front_values-requires-clause-known c = c.requires.known ∙ ap (λ (ds : List DefinitionTree). headings (map definition_of ds)) (sym c.deref.ensures.value)
+front_values-requires-clause-known c = c.requires.known
+    ∙ ap (λ (ds : List DefinitionTree). headings (map definition_of ds)) (sym c.deref.ensures.value)
 
 pub front_values-requires-clause-right : goal.front_values-requires-clause-right
 front_values-requires-clause-right c =
-    (λ i. file_flaw (front_of Two (map definition_of (c.deref.ensures.value i)) (c.deref-2.ensures.value i))) ∙ (faultless (run_of c.args.tree.now) c.requires.right).front
+    (λ i. file_flaw (front_of Two (map definition_of (c.deref.ensures.value i)) (c.deref-2.ensures.value i)))
+    ∙ (faultless (run_of c.args.tree.now) c.requires.right).front
 
 pub heap_value-requires-clause-small : goal.heap_value-requires-clause-small
 heap_value-requires-clause-small c =
     let r = run_of c.args.tree.now in
-    outside_small 32 (omega arith) (headings r.definitions) (from_place r + 3) r.precondition (faultless r c.requires.right).precondition
+    outside_small 32 (omega arith) (headings r.definitions) (from_place r + 3) r.precondition
+    (faultless r c.requires.right).precondition
 
 pub heap_value-requires-clause-few : goal.heap_value-requires-clause-few
 heap_value-requires-clause-few c =
     let r = run_of c.args.tree.now in
-    let few = (definitions_small 32 (omega arith) (headings r.definitions) 4 r.definitions (faultless r c.requires.right).definitions).1 in
+    let few = (definitions_small 32 (omega arith) (headings r.definitions) 4 r.definitions
+    (faultless r c.requires.right).definitions).1 in
     omega (arith, few, ap length c.requires.known, length-map r.definitions heading)
 
 pub cells-requires : goal.cells-requires
 cells-requires c =
-    subst (λ (cs : List CellTree). Each IsSmallCell (map cell_of cs)) (sym c.deref-4.ensures.value) (run_small (run_of c.args.tree.now) c.requires.fits c.requires.right)
+    subst (λ (cs : List CellTree). Each IsSmallCell (map cell_of cs)) (sym c.deref-4.ensures.value)
+    (run_small (run_of c.args.tree.now) c.requires.fits c.requires.right)
 
 pub invariant_of-result : goal.invariant_of-result
 invariant_of-result c =
     let r = run_of c.args.tree.now in
     let hs = headings r.definitions in
     let there = line_there r (faultless r c.requires.right) in
-    let definitions_are = c.in_ok-front.ensures.definitions ∙ (λ i. map (definition_value (c.requires.known i)) (map definition_of (c.deref.ensures.value i))) in
+    let definitions_are = c.in_ok-front.ensures.definitions
+    ∙ (λ i. map (definition_value (c.requires.known i)) (map definition_of (c.deref.ensures.value i))) in
     let program_is = c.in_ok-front.ensures.program ∙ ap program_value c.deref-2.ensures.value in
     let state_is = c.in_ok-precondition.ensures ∙ (λ i. heap_value term_value (c.requires.known i) r.precondition) in
     let stack_is = c.from_vec-stack.ensures ∙ c.in_ok-wide_numbers.ensures ∙ c.deref-3.ensures.value in
-    let heap_is = c.in_ok-heap.ensures ∙ ap (λ (cs : List CellTree). cells_value (map cell_of cs)) c.deref-4.ensures.value in
+    let heap_is = c.in_ok-heap.ensures ∙ ap (λ (cs : List CellTree). cells_value (map cell_of cs))
+    c.deref-4.ensures.value in
     let picks_are = c.in_ok-picks.ensures ∙ ap (map pick_of) c.deref-5.ensures.value in
     let long = program_long r.lines in
-    let same : sorted r ≡ tree_of c.in_ok-front.front.defs.list c.in_ok-front.front.program r.line c.in_ok-precondition.precondition c.from_vec-stack.result c.in_ok-heap.heap c.in_ok-picks.picks.items r.outcome =
-    sym ((λ i. tree_of (definitions_are i) (program_is i) r.line (state_is i) (stack_is i) (heap_is i) (picks_are i) r.outcome) ∙ tree_again r c.requires.right) in
+    let same : sorted r
+    ≡ tree_of c.in_ok-front.front.defs.list c.in_ok-front.front.program r.line c.in_ok-precondition.precondition
+    c.from_vec-stack.result c.in_ok-heap.heap c.in_ok-picks.picks.items r.outcome =
+    sym ((λ i. tree_of (definitions_are i) (program_is i) r.line (state_is i) (stack_is i) (heap_is i) (picks_are i)
+    r.outcome) ∙ tree_again r c.requires.right) in
     record {
       limit = c.in_ok-front.ensures.most;
       from_one = there.0;
@@ -77,7 +87,8 @@ returns c =
     let r = run_of c.args.tree.now in
     record {
       most = c.in_ok-front.ensures.most;
-      definitions = c.in_ok-front.ensures.definitions ∙ (λ i. map (definition_value (c.requires.known i)) (map definition_of (c.deref.ensures.value i)));
+      definitions = c.in_ok-front.ensures.definitions
+          ∙ (λ i. map (definition_value (c.requires.known i)) (map definition_of (c.deref.ensures.value i)));
       program = c.in_ok-front.ensures.program ∙ ap program_value c.deref-2.ensures.value;
       line = refl;
       precondition = c.in_ok-precondition.ensures ∙ (λ i. heap_value term_value (c.requires.known i) r.precondition);

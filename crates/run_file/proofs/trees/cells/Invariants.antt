@@ -1,7 +1,7 @@
 use Rattle.std.proofs.Common.{◌≡◌, map, take}
 use Rattle.std.specs.FinMap.{entries}
-use Rattle.model_syntax.specs.Trees.{cell_of}
-use Rattle.model_syntax.specs.Grammar.{to_cell}
+use Rattle.model_file.specs.Trees.{cell_of}
+use Rattle.model_file.specs.Grammar.{to_cell}
 use Rattle.run_file.proofs.trees.cells.Given as goal
 
 abbrev pub invariant-loop-address : goal.invariant-loop-address

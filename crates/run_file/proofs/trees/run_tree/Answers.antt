@@ -1,8 +1,8 @@
 use Rattle.std.proofs.Common.{List, ℕ, map, sym, subst, ◌∙◌}
 use Rattle.heap_formula.specs.Words.{Each}
-use Rattle.refuting_runs.specs.declared.picks.Pick.{Pick}
+use Rattle.general_models.specs.declared.runs.picks.Pick.{Pick}
 use Rattle.model_file.specs.Small.{IsShortNumber}
-use Rattle.pred_reader.specs.Written.{heap_tree, definition_tree}
+use Rattle.heap_reader.specs.Written.{heap_tree, definition_tree}
 use Rattle.run_file.specs.Small.{IsShortPick}
 use Rattle.run_file.proofs.RunsAgain.{tree_of_run, run_short}
 use Rattle.run_file.proofs.trees.run_tree.Goals as goal
@@ -25,10 +25,21 @@ picks-requires c =
 pub returns : goal.returns
 returns c =
     let r = c.args.run.now in
-    let definitions = c.in_ok-definitions.ensures ∙ (λ i. map (definition_tree (c.as_slice-defs.ensures.value i)) (c.as_slice-defs.ensures.value i)) in
+    let definitions = c.in_ok-definitions.ensures ∙ (λ i. map (definition_tree (c.as_slice-defs.ensures.value i))
+    (c.as_slice-defs.ensures.value i)) in
     let lines = c.in_ok-lines.ensures in
-    let precondition = c.in_ok-precondition.ensures ∙ (λ i. heap_tree (c.as_slice-defs.ensures.value i) r.precondition) in
+    let precondition = c.in_ok-precondition.ensures ∙ (λ i. heap_tree (c.as_slice-defs.ensures.value i) r.precondition)
+    in
     let stack = c.in_ok-stack.ensures ∙ c.as_slice.ensures in
     let cells = c.in_ok-cells.ensures in
     let picks = c.in_ok-picks.ensures ∙ c.deref.ensures.value in
-    λ i. record { definitions = definitions i; lines = lines i; line = r.line; precondition = precondition i; stack = stack i; cells = cells i; picks = picks i; outcome = r.outcome }
+    λ i. record {
+      definitions = definitions i;
+      lines = lines i;
+      line = r.line;
+      precondition = precondition i;
+      stack = stack i;
+      cells = cells i;
+      picks = picks i;
+      outcome = r.outcome;
+    }

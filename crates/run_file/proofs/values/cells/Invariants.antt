@@ -1,5 +1,5 @@
 use Rattle.std.proofs.Common.{◌≡◌, ◌-◌, drop, length, map}
-use Rattle.model_syntax.specs.Trees.{cell_of}
+use Rattle.model_file.specs.Trees.{cell_of}
 use Rattle.model_file.specs.Values.{cells_value}
 use Rattle.run_file.proofs.values.cells.Given as goal
 

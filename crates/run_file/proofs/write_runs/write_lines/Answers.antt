@@ -8,7 +8,13 @@ use Rattle.proof_syntax.specs.Grammar.{lines}
 use Rattle.run_file.proofs.write_runs.write_lines.Goals as goal
 
 pub write_lines-requires : goal.write_lines-requires
-write_lines-requires c = λ k. ((refl, tt), subst (λ (ls : List Line). (lines Two).fits ls) (sym (lines-same c.args.trees.now)) c.requires)
+write_lines-requires c = λ k. (
+  (refl, tt),
+  subst (λ (ls : List Line). (lines Two).fits ls)
+      (sym (lines-same c.args.trees.now)) c.requires,
+)
 
 pub returns : goal.returns
-returns c = subst (λ (ls : List Line). OnOk c.write_lines.result (c.write_lines.new.writer ≡ write_all c.args.writer.now ((lines Two).words ls))) (lines-same c.args.trees.now) c.write_lines.ensures
+returns c = subst (λ (ls : List Line). OnOk c.write_lines.result
+    (c.write_lines.new.writer ≡ write_all c.args.writer.now ((lines Two).words ls))) (lines-same c.args.trees.now)
+    c.write_lines.ensures

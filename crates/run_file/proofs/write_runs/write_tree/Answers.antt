@@ -9,4 +9,5 @@ pub returns-clause-again : goal.returns-clause-again
 unfolding run
 returns-clause-again c =
     let words = body.words (run_of c.args.tree.now) in
-    c.finish.ensures.again words (c.in_ok-write_body.ensures ∙ ap (λ s. write_all s words) c.new-writer.ensures) (body-inner.inner (run_of c.args.tree.now) c.requires)
+    c.finish.ensures.again words (c.in_ok-write_body.ensures ∙ ap (λ s. write_all s words) c.new-writer.ensures)
+    (body-inner.inner (run_of c.args.tree.now) c.requires)

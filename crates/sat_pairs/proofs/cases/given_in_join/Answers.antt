@@ -18,13 +18,15 @@ returns-clause-given c =
     let xs = c.in_ok-ordered.ordered.items in
     let parts = c.args.parts.items in
     IfOk-weaker c.given_in_order.result _ _ (λ out h d.
-    let same = reordered_give (λ (x : Part). x.atom) (part_pairs table cell) k a.pure d xs parts c.in_ok-ordered.ensures.all in
+    let same = reordered_give (λ (x : Part). x.atom) (part_pairs table cell)
+    k a.pure d xs parts c.in_ok-ordered.ensures.all in
     let whole = whole_give table cell k a.pure d a.spatial parts c.requires.whole in
     let here = subst (λ z. PartsGive table cell k z d xs) c.pure.ensures.value in
     let back = subst (λ z. PartsGive table cell k z d xs) (sym c.pure.ensures.value) in
     let there = subst (λ z. PartsGive table cell k c.pure.result.now d z) c.deref.ensures.value in
     let again = subst (λ z. PartsGive table cell k c.pure.result.now d z) (sym c.deref.ensures.value) in
-    (λ m. whole.0 (same.0 (here (there ((h d).0 m)))), λ g. (h d).1 (again (back (same.1 (whole.1 g)))))) c.given_in_order.ensures.given
+    (λ m. whole.0 (same.0 (here (there ((h d).0 m)))), λ g. (h d).1 (again (back (same.1 (whole.1 g))))))
+    c.given_in_order.ensures.given
 
 pub returns-clause-few : goal.returns-clause-few
 returns-clause-few c =
@@ -35,8 +37,11 @@ returns-clause-few c =
     let xs = c.in_ok-ordered.ordered.items in
     let parts = c.args.parts.items in
     IfOk-weaker c.given_in_order.result _ _ (λ out h l.
-    let p = large_passes table cell k c.args.most a parts xs c.requires.whole c.in_ok-ordered.ensures.all c.in_ok-ordered.ensures.order l in
-    h (subst (λ z. Passes c.args.most (families_of (lists_of table cell z)) k c.pure.result.now (atoms_of z)) (sym c.deref.ensures.value) (subst (λ z. Passes c.args.most (families_of (lists_of table cell xs)) k z (atoms_of xs)) (sym c.pure.ensures.value) p))) c.given_in_order.ensures.few
+    let p = large_passes table cell k c.args.most a parts xs c.requires.whole c.in_ok-ordered.ensures.all
+    c.in_ok-ordered.ensures.order l in
+    h (subst (λ z. Passes c.args.most (families_of (lists_of table cell z)) k c.pure.result.now (atoms_of z))
+    (sym c.deref.ensures.value) (subst (λ z. Passes c.args.most (families_of (lists_of table cell xs)) k z
+    (atoms_of xs)) (sym c.pure.ensures.value) p))) c.given_in_order.ensures.few
 
 pub returns-clause-many : goal.returns-clause-many
 returns-clause-many c e =
@@ -46,5 +51,8 @@ returns-clause-many c e =
     let k = c.args.k in
     let xs = c.in_ok-ordered.ordered.items in
     let parts = c.args.parts.items in
-    let p = subst (λ z. Passes c.args.most (families_of (lists_of table cell xs)) k z (atoms_of xs)) c.pure.ensures.value (subst (λ z. Passes c.args.most (families_of (lists_of table cell z)) k c.pure.result.now (atoms_of z)) c.deref.ensures.value (c.given_in_order.ensures.many e)) in
-    passes_large table cell k c.args.most a parts xs c.requires.whole c.in_ok-ordered.ensures.all c.in_ok-ordered.ensures.order c.requires.some p
+    let p = subst (λ z. Passes c.args.most (families_of (lists_of table cell xs)) k z (atoms_of xs))
+    c.pure.ensures.value (subst (λ z. Passes c.args.most (families_of (lists_of table cell z)) k c.pure.result.now
+    (atoms_of z)) c.deref.ensures.value (c.given_in_order.ensures.many e)) in
+    passes_large table cell k c.args.most a parts xs c.requires.whole c.in_ok-ordered.ensures.all
+    c.in_ok-ordered.ensures.order c.requires.some p

@@ -7,4 +7,6 @@ use Rattle.sat_pairs.proofs.numbers.parameter_numbers.Goals as goal
 
 pub loop-i-preserved : goal.loop-i-preserved
 loop-i-preserved c =
-    parameter_step c.loop-i.numbers.items c.push-in-loop-i.new.self.items (map term_number (Nil ∷ variables_from 0 c.args.k)) c.loop-i.i c.args.k c.loop-i-test.true c.loop-i.invariant c.in_ok-push-2.ensures.items
+    parameter_step c.loop-i.numbers.items c.push-in-loop-i.new.self.items
+    (map term_number (Nil ∷ variables_from 0 c.args.k))
+    c.loop-i.i c.args.k c.loop-i-test.true c.loop-i.invariant c.in_ok-push-2.ensures.items

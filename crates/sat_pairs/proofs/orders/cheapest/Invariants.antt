@@ -7,5 +7,7 @@ use Rattle.sat_pairs.proofs.orders.cheapest.Given as goal
 abbrev pub invariant-loop-place : goal.invariant-loop-place
 invariant-loop-place l = record {
   within : l.best < length l.left;
-  rest : first_least (pair_of_cost l.least) l.best l.place (map (cost_of l.k (atoms_of l.taken) (atoms_of l.left)) (atoms_of (drop l.place l.left))) ≡ cheapest l.k (atoms_of l.taken) (atoms_of l.left);
+  rest : first_least (pair_of_cost l.least) l.best l.place
+      (map (cost_of l.k (atoms_of l.taken) (atoms_of l.left)) (atoms_of (drop l.place l.left)))
+      ≡ cheapest l.k (atoms_of l.taken) (atoms_of l.left);
 }

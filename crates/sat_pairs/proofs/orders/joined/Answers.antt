@@ -11,9 +11,18 @@ pub loop-ordered-init : goal.loop-ordered-init
 loop-ordered-init c = λ out j. j
 
 pub loop-ordered-preserved : goal.loop-ordered-preserved
-loop-ordered-preserved c = λ out j. c.loop-ordered.invariant out (joined_more c.args.k c.loop-ordered.ordered.items c.push.new.self.items c.loop-ordered.left.items c.remove-part.new.self.items out c.cheapest-place.result c.remove-part.result (c.cheapest-place.ensures.place ∙ (λ z. cheapest c.args.k (atoms_of (c.deref.ensures.value z)) (atoms_of (c.deref-in-loop-ordered.ensures.value z)))) (subst (λ z. c.cheapest-place.result < length z) c.deref-in-loop-ordered.ensures.value c.cheapest-place.ensures.within) c.remove-part.ensures.value c.remove-part.ensures.by_index.2 c.in_ok-push.ensures.items j)
+loop-ordered-preserved c = λ out j. c.loop-ordered.invariant out
+    (joined_more c.args.k c.loop-ordered.ordered.items c.push.new.self.items c.loop-ordered.left.items
+    c.remove-part.new.self.items out c.cheapest-place.result c.remove-part.result
+    (c.cheapest-place.ensures.place ∙ (λ z. cheapest c.args.k (atoms_of (c.deref.ensures.value z))
+    (atoms_of (c.deref-in-loop-ordered.ensures.value z)))) (subst (λ z. c.cheapest-place.result < length z)
+    c.deref-in-loop-ordered.ensures.value c.cheapest-place.ensures.within)
+    c.remove-part.ensures.value c.remove-part.ensures.by_index.2 c.in_ok-push.ensures.items j)
 
 pub returns : goal.returns
 returns c =
     let left = c.loop-ordered.left in
-    c.loop-ordered.invariant c.loop-ordered.ordered.items (joined_none c.args.k c.loop-ordered.ordered.items left.items (nil_from_length left.items (sym left.ok.0 ∙ eqb-true (vec_len left) 0 (sym c.is_empty.ensures ∙ c.loop-ordered-test.false))))
+    c.loop-ordered.invariant c.loop-ordered.ordered.items
+    (joined_none c.args.k c.loop-ordered.ordered.items left.items
+    (nil_from_length left.items (sym left.ok.0 ∙ eqb-true (vec_len left) 0
+    (sym c.is_empty.ensures ∙ c.loop-ordered-test.false))))

@@ -6,4 +6,5 @@ use Rattle.sat_pairs.proofs.rounds.arity_at.Goals as goal
 pub returns : goal.returns
 returns c =
     let d : Definition = c.index-all-pred.result in
-    ap (λ z. (get_or z c.args.pred d).arity) c.as_slice-all.ensures.value ∙ arity_read c.args.defs.now.list c.args.pred d c.requires
+    ap (λ z. (get_or z c.args.pred d).arity) c.as_slice-all.ensures.value
+    ∙ arity_read c.args.defs.now.list c.args.pred d c.requires

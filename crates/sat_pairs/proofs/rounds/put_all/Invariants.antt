@@ -1,7 +1,7 @@
 use Rattle.std.proofs.Common.{◌≡◌, ◌⊎◌, length}
 use Rattle.pair_family.specs.BasePairs.{BasePair}
 use Rattle.pair_family.specs.Tables.{pairs_of}
-use Rattle.list_facts.specs.Words.{IsMember}
+use Rattle.cyc_basics.specs.Words.{IsMember}
 use Rattle.sat_pairs.specs.Growth.{total, IsPartOf, IsGrown}
 use Rattle.sat_pairs.proofs.rounds.put_all.Given as goal
 

@@ -5,5 +5,6 @@ pub loop-place-preserved : goal.loop-place-preserved
 loop-place-preserved c = record {
   part = c.in_ok-now.ensures.part.0;
   count = c.in_ok-now.ensures.part.1;
-  grown = grown_then c.args.table.now c.loop-place.table c.put_new_at.new.table c.loop-place.invariant.grown c.in_ok-now.ensures.grown;
+  grown = grown_then c.args.table.now c.loop-place.table c.put_new_at.new.table c.loop-place.invariant.grown
+      c.in_ok-now.ensures.grown;
 }

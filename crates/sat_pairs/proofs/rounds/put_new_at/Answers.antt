@@ -15,4 +15,7 @@ put_given-requires-clause-members c =
     let xs = c.in_ok-parts.parts.items in
     IfOk-weaker c.given_from-given.result _ _ (λ v h b m.
     let g = subst (λ z. PartsGive table cell c.args.k z b xs) c.pure.ensures.value ((h b).0 m) in
-    c.requires.sound b (gives_within (in_table table) (InFamily c.args.defs.now.list) (λ p d i. c.requires.part.members p d i) c.args.k b a (parts_give table cell c.args.k a.pure b a.spatial xs (c.in_ok-parts.ensures ∙ c.spatial.ensures.value) g))) c.given_from-given.ensures
+    c.requires.sound b (gives_within (in_table table) (InFamily c.args.defs.now.list)
+    (λ p d i. c.requires.part.members p d i) c.args.k b a
+    (parts_give table cell c.args.k a.pure b a.spatial xs (c.in_ok-parts.ensures ∙ c.spatial.ensures.value) g)))
+    c.given_from-given.ensures

@@ -13,5 +13,6 @@ invariant-loop-pred l = record {
   count : l.now ≡ total l.table;
   grown : IsGrown l.fn.table l.table;
   done : (p : ℕ) → p < l.pred → HasAllGiven l.fn.table l.table p (arity_of l.defs.list p) (cases_of l.defs.list p);
-  small : (p : ℕ) → p < l.pred → ¬ OneOf (IsLarge l.limits.states (in_table l.fn.table) (arity_of l.defs.list p)) (cases_of l.defs.list p);
+  small : (p : ℕ) → p < l.pred → ¬ OneOf (IsLarge l.limits.states (in_table l.fn.table) (arity_of l.defs.list p))
+      (cases_of l.defs.list p);
 }

@@ -1,5 +1,5 @@
 use Rattle.std.proofs.Common.{◌≡◌, drop}
-use Rattle.fold_offers.specs.Places.{first_from}
+use Rattle.search_moves.specs.Places.{first_from}
 use Rattle.search_moves.specs.States.{state_rewrite, state_rewrites}
 use Rattle.search_moves.proofs.equations.state_rewrites.Given as goal
 

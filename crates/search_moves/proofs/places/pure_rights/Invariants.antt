@@ -1,5 +1,5 @@
 use Rattle.std.proofs.Common.{◌≡◌, ◌++◌, drop}
-use Rattle.fold_offers.specs.Places.{each_from}
+use Rattle.search_moves.specs.Places.{each_from}
 use Rattle.search_moves.specs.Entailments.{pure_right_at, pure_rights}
 use Rattle.search_moves.proofs.places.pure_rights.Given as goal
 

@@ -1,5 +1,5 @@
 use Rattle.std.proofs.Common.{◌≡◌, drop}
-use Rattle.fold_offers.specs.Places.{first_from}
+use Rattle.search_moves.specs.Places.{first_from}
 use Rattle.search_moves.specs.Entailments.{rewrite_at, side_of, rewrites}
 use Rattle.search_moves.proofs.places.rewrites.Given as goal
 

@@ -7,10 +7,15 @@ use Rattle.solver.proofs.reruns.is_at.Goals as goal
 
 pub returns-in-Ends : goal.returns-in-Ends
 returns-in-Ends c =
-    subst (λ (n : ℕ). IsTrue false ↔ IsAt c.args.program.now c.args.w c.args.picks.now (state_of c.args.start.now) n c.args.line) c.from.ensures
-    (ended_before c.args.program.now c.args.w c.args.picks.now (state_of c.args.start.now) c.from.result c.args.line c.in_ok-run.field-0 c.in-Ends.field-0 c.in-Ends.field-1 c.in-Ends.is c.in_ok-run.ensures.answer)
+    subst (λ (n : ℕ). IsTrue false ↔ IsAt c.args.program.now c.args.w c.args.picks.now (state_of c.args.start.now)
+    n c.args.line) c.from.ensures
+    (ended_before c.args.program.now c.args.w c.args.picks.now (state_of c.args.start.now)
+    c.from.result c.args.line c.in_ok-run.field-0 c.in-Ends.field-0 c.in-Ends.field-1 c.in-Ends.is
+    c.in_ok-run.ensures.answer)
 
 pub returns-in-Reached : goal.returns-in-Reached
 returns-in-Reached c =
-    subst (λ (n : ℕ). IsTrue (nat_eq c.in-Reached.config.line c.args.line) ↔ IsAt c.args.program.now c.args.w c.args.picks.now (state_of c.args.start.now) n c.args.line) c.from.ensures
-    (reached_line c.args.program.now c.args.w c.args.picks.now (state_of c.args.start.now) c.from.result c.args.line c.in_ok-run.field-0 c.in-Reached.config c.in-Reached.is c.in_ok-run.ensures.answer)
+    subst (λ (n : ℕ). IsTrue (nat_eq c.in-Reached.config.line c.args.line)
+    ↔ IsAt c.args.program.now c.args.w c.args.picks.now (state_of c.args.start.now) n c.args.line) c.from.ensures
+    (reached_line c.args.program.now c.args.w c.args.picks.now (state_of c.args.start.now)
+    c.from.result c.args.line c.in_ok-run.field-0 c.in-Reached.config c.in-Reached.is c.in_ok-run.ensures.answer)

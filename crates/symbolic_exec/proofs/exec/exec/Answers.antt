@@ -4,4 +4,5 @@ use Rattle.symbolic_exec.proofs.exec.exec.Goals as goal
 
 pub command_premises-requires-clause-few : goal.command_premises-requires-clause-few
 command_premises-requires-clause-few c =
-    few_fields c.args.program.now c.lines-lines.ensures.program c.in-Term.line c.in-Some.command (sym c.command_at.ensures ∙ c.in-Some.is)
+    few_fields c.args.program.now c.lines-lines.ensures.program c.in-Term.line c.in-Some.command
+    (sym c.command_at.ensures ∙ c.in-Some.is)

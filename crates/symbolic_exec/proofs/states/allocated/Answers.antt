@@ -7,4 +7,5 @@ use Rattle.symbolic_exec.proofs.states.allocated.Goals as goal
 pub returns : goal.returns
 returns c =
     let old = c.in_ok-old.ensures ∙ ap (λ (s : Bindings). apply_heap s c.args.a.now) c.in_ok-subst.ensures in
-    IfOk-weaker c.with_cell.result _ _ (λ h made. made ∙ (λ i. with_cell (old i) c.args.x (c.variables.ensures i))) c.with_cell.ensures
+    IfOk-weaker c.with_cell.result _ _ (λ h made. made ∙ (λ i. with_cell (old i) c.args.x (c.variables.ensures i)))
+    c.with_cell.ensures

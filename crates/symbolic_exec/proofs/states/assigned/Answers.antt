@@ -10,4 +10,5 @@ pub returns : goal.returns
 returns c =
     let old = c.in_ok-old.ensures ∙ ap (λ (s : Bindings). apply_heap s c.args.a.now) c.in_ok-subst.ensures in
     let term = c.apply_to_term.ensures ∙ ap (λ (s : Bindings). apply_term s c.args.t) c.in_ok-subst.ensures in
-    IfOk-weaker c.with_atom.result _ _ (λ h made. made ∙ (λ i. with_atom (old i) (Eq (Univ c.args.x) (term i)))) c.with_atom.ensures
+    IfOk-weaker c.with_atom.result _ _ (λ h made. made ∙ (λ i. with_atom (old i) (Eq (Univ c.args.x) (term i))))
+    c.with_atom.ensures

@@ -10,6 +10,7 @@ loop-i-preserved c =
     let i = c.loop-i.i in
     let so_far = c.loop-i.invariant in
     let within : i < length terms = omega (arith, so_far.1, c.loop-i-test.true, c.requires.few) in (
-      take_more_set terms i (Univ c.number.result) within ∙ (λ q. so_far.0 q ++ Univ (c.number.ensures q) ∷ []) ∙ sym (one_more_variable c.args.n i),
+      take_more_set terms i (Univ c.number.result) within ∙ (λ q. so_far.0 q ++ Univ (c.number.ensures q) ∷ [])
+          ∙ sym (one_more_variable c.args.n i),
       length-set terms i (Univ c.number.result) ∙ so_far.1,
     )

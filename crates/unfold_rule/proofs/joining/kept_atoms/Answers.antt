@@ -6,5 +6,6 @@ use Rattle.unfold_rule.proofs.joining.kept_atoms.Goals as goal
 
 pub returns-clause-value : goal.returns-clause-value
 returns-clause-value c =
-    let p : take c.args.k c.args.atoms.now ++ drop (c.args.k + 1) c.args.atoms.now ≡ without c.args.k c.args.atoms.now = without_parts c.args.atoms.now c.args.k in
+    let p : take c.args.k c.args.atoms.now ++ drop (c.args.k + 1) c.args.atoms.now
+    ≡ without c.args.k c.args.atoms.now = without_parts c.args.atoms.now c.args.k in
     grind (arith, common_steps, p)

@@ -18,6 +18,15 @@ returns c =
     let b = c.args.b.now in
     let r = c.unfold_case.result in
     let x_is : c.args.x.now ≡ Pred c.in-Pred.q c.in-Pred.args = c.in-Pred.is in
-    let case_is : slice_get (cases_of c.args.defs.now.list c.in-Pred.q) c.args.c ≡ Some c.in-Some.case.now = ap (λ (xs : List SymbolicHeap). slice_get xs c.args.c) (sym c.cases.ensures) ∙ c.in-Some.ensures in
-    let here = subst (λ (most : ℕ). IsAnswer r (limited most (one (right_by a b c.args.k (right_term c.in-Pred.args (heap_exists b)) c.in-Some.case.now)))) c.most-most.ensures.value c.unfold_case.ensures in
-    subst (λ (y : Spatial). IsAnswer r (calls y (λ q ts. finds (slice_get (cases_of c.args.defs.now.list q) c.args.c) NoSuchCase (λ case. limited c.args.defs.now.most (one (right_by a b c.args.k (right_term ts (heap_exists b)) case)))))) (sym x_is) (subst (λ (o : Option SymbolicHeap). IsAnswer r (finds o NoSuchCase (λ case. limited c.args.defs.now.most (one (right_by a b c.args.k (right_term c.in-Pred.args (heap_exists b)) case))))) (sym case_is) here)
+    let case_is : slice_get (cases_of c.args.defs.now.list c.in-Pred.q) c.args.c
+    ≡ Some c.in-Some.case.now = ap (λ (xs : List SymbolicHeap). slice_get xs c.args.c) (sym c.cases.ensures)
+    ∙ c.in-Some.ensures in
+    let here = subst (λ (most : ℕ). IsAnswer r (limited most
+    (one (right_by a b c.args.k (right_term c.in-Pred.args (heap_exists b)) c.in-Some.case.now))))
+    c.most-most.ensures.value c.unfold_case.ensures in
+    subst (λ (y : Spatial). IsAnswer r (calls y (λ q ts. finds (slice_get (cases_of c.args.defs.now.list q) c.args.c)
+    NoSuchCase (λ case. limited c.args.defs.now.most (one
+    (right_by a b c.args.k (right_term ts (heap_exists b)) case)))))) (sym x_is)
+    (subst (λ (o : Option SymbolicHeap). IsAnswer r (finds o NoSuchCase
+    (λ case. limited c.args.defs.now.most (one (right_by a b c.args.k (right_term c.in-Pred.args (heap_exists b))
+    case))))) (sym case_is) here)

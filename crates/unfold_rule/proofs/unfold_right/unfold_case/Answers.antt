@@ -14,12 +14,17 @@ returns-then-not-fits c =
     let b = c.args.b.now in
     let f = right_term c.args.args.now (heap_exists b) in
     let long : c.fits.result ≡ false = c.if-not-fits.true in
-    limited_long c.args.most (one (right_by a b c.args.k f c.args.case.now)) (right_short a b c.args.k c.args.case.now c.args.most f c.requires.k_in ∙ sym c.fits.ensures ∙ long)
+    limited_long c.args.most (one (right_by a b c.args.k f c.args.case.now))
+    (right_short a b c.args.k c.args.case.now c.args.most f c.requires.k_in ∙ sym c.fits.ensures ∙ long)
 
 pub returns : goal.returns
 returns c =
     let a = c.args.a.now in
     let b = c.args.b.now in
     let fit : c.fits.result ≡ true = c.if-not-fits.false in
-    let made = right_made c.args.most a b c.args.k c.args.args.now c.exists_in_heap.result c.args.case.now c.numbered.result c.in_ok-right_premises.field-0.items c.requires.k_in (sym c.fits.ensures ∙ fit) c.in_ok-right_premises.ensures c.numbered.ensures in
-    subst (λ (m : ℕ). IsAnswer c.numbered.result (limited c.args.most (one (right_by a b c.args.k (right_term c.args.args.now m) c.args.case.now)))) c.exists_in_heap.ensures.value made
+    let made = right_made c.args.most a b c.args.k c.args.args.now c.exists_in_heap.result c.args.case.now
+    c.numbered.result c.in_ok-right_premises.field-0.items c.requires.k_in (sym c.fits.ensures ∙ fit)
+    c.in_ok-right_premises.ensures c.numbered.ensures in
+    subst (λ (m : ℕ). IsAnswer c.numbered.result (limited c.args.most
+    (one (right_by a b c.args.k (right_term c.args.args.now m) c.args.case.now))))
+    c.exists_in_heap.ensures.value made

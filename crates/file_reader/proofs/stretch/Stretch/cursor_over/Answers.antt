@@ -16,4 +16,5 @@ new-requires c =
     subst (λ (ws : List Word). are_tokens ws ≡ true) (sym same) c.requires.tokens
 
 pub returns-then-kept-self : goal.returns-then-kept-self
-returns-then-kept-self c = c.new.ensures ∙ placed-words c.args.kept.now ∙ ap (map word_of) (c.requires.kept c.if-kept-self.true)
+returns-then-kept-self c = c.new.ensures ∙ placed-words c.args.kept.now
+    ∙ ap (map word_of) (c.requires.kept c.if-kept-self.true)

@@ -1,6 +1,6 @@
-use Rattle.fo_limits.proofs.Open.{reason_open}
-use Rattle.fo_calculus.specs.Calculus.{sequent_of}
-use Rattle.fo_calculus.proofs.Fairness.{stands}
+use Rattle.fo_logic.proofs.Open.{reason_open}
+use Rattle.fo_search.specs.Calculus.{sequent_of}
+use Rattle.fo_search.proofs.Fairness.{stands}
 use Rattle.fo_search.proofs.logic.FirstOrderSearchLogic.effect.Goals as goal
 
 pub effect_of-requires-clause-occur : goal.effect_of-requires-clause-occur

@@ -1,4 +1,4 @@
-use Rattle.fo_calculus.proofs.Fairness.{stands}
+use Rattle.fo_search.proofs.Fairness.{stands}
 use Rattle.fo_search.proofs.logic.FirstOrderSearchLogic.positions.Goals as goal
 
 pub positions-requires : goal.positions-requires

@@ -6,4 +6,5 @@ use Rattle.goto_lang.proofs.cells.Cells.greatest.Goals as goal
 
 pub returns : goal.returns
 returns c =
-    rw (← c.self.view_is) (c.greatest_in.ensures.value ∙ ap (λ es. max_of (cell_numbers es)) (sym (entries_are c.self.inside.cells.entries c.greatest_in.ensures.ordered)))
+    rw (← c.self.view_is) (c.greatest_in.ensures.value ∙ ap (λ es. max_of (cell_numbers es))
+    (sym (entries_are c.self.inside.cells.entries c.greatest_in.ensures.ordered)))

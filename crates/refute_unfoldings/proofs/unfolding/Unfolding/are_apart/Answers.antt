@@ -16,9 +16,12 @@ loop-pair-preserved c =
           (let index = c.loop-pair.pair-index in
           let same : i ≡ index = omega arith in
           let items = c.deref-pair-items.ensures.value ∙ ap (λ (k : Known). k.apart) c.self.view_is in
-          let read : slice_get c.deref-pair-items.result.now index ≡ Some pair = ap (λ (xs : List (Term × Term)). slice_get xs index) items ∙ subst (λ (k : ℕ). slice_get c.args.self.now.apart k ≡ Some pair) same at in
+          let read : slice_get c.deref-pair-items.result.now index
+          ≡ Some pair = ap (λ (xs : List (Term × Term)). slice_get xs index) items
+          ∙ subst (λ (k : ℕ). slice_get c.args.self.now.apart k ≡ Some pair) same at in
           let is = get_or_from_slice_get c.deref-pair-items.result.now index pair _ read in
-          true≢false (sym (c.joins.ensures.1 (subst (λ (p : Term × Term). JoinsClasses c.args.self.now.classes c.args.t c.args.u p) (sym is) joins)) ∙ c.if-joins.false))
+          true≢false (sym (c.joins.ensures.1 (subst (λ (p : Term
+          × Term). JoinsClasses c.args.self.now.classes c.args.t c.args.u p) (sym is) joins)) ∙ c.if-joins.false))
     ]
 
 pub returns : goal.returns

@@ -8,5 +8,6 @@ use Rattle.word_inclusions.proofs.logic.WordInclusionsLogic.positions.Goals as g
 pub returns-clause-set : goal.returns-clause-set
 returns-clause-set c =
     let e = expression_of c.left.result.now in
-    let is : c.push_places.new.places.items ≡ star_places e 0 = c.in_ok-push_places.ensures ∙ ap (λ (v : List ℕ). v ++ star_places e 0) c.new-places.ensures.items in
+    let is : c.push_places.new.places.items ≡ star_places e 0 = c.in_ok-push_places.ensures
+    ∙ ap (λ (v : List ℕ). v ++ star_places e 0) c.new-places.ensures.items in
     subst IsPositionSet (sym is) (places_set e)

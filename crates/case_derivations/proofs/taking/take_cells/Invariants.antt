@@ -1,8 +1,0 @@
-use Rattle.std.proofs.Common.{drop}
-use Rattle.std.specs.Prelude.{◌↔◌}
-use Rattle.heap_formula.specs.Cells.{Cells}
-use Rattle.case_derivations.specs.Derivations.{AtomsLeave}
-use Rattle.case_derivations.proofs.taking.take_cells.Given as goal
-
-abbrev pub invariant-loop-atom : goal.invariant-loop-atom
-invariant-loop-atom l = (g : Cells) → AtomsLeave l.stack l.locals l.atoms l.initial.left g ↔ AtomsLeave l.stack l.locals (drop l.atom-index l.atoms) l.left g

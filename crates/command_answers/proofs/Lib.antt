@@ -1,0 +1,13 @@
+pub mod Readings
+pub mod Within
+pub mod OneAnswer
+pub mod Impossible
+pub mod ModelOneAnswer
+pub mod FewCells
+pub mod ModelTrees
+pub mod Answered
+pub mod OneCounter
+pub mod DisproveOneAnswer
+pub mod FirstOrderOneAnswer
+pub mod OneSearch
+pub mod Texts

@@ -1,2 +1,0 @@
-pub mod ModelTrees
-pub mod PlainCells

@@ -1,7 +1,0 @@
-use Rattle.std.proofs.Common.{drop}
-use Rattle.heap_formula.specs.Words.{Each}
-use Rattle.counter_files.specs.States.{HasPlainCell}
-use Rattle.counter_files.proofs.states.are_plain.Given as goal
-
-abbrev pub invariant-loop-address : goal.invariant-loop-address
-invariant-loop-address l = Each (HasPlainCell l.heap) (drop l.address-index l.addresses) → Each (HasPlainCell l.heap) l.addresses

@@ -1,6 +1,0 @@
-mod ReasonEffects
-mod Begins
-mod Gives
-mod Shows
-mod Withdraws
-mod Following

@@ -1,2 +1,0 @@
-mod Commands
-mod Offsets

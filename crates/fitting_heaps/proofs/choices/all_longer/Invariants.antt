@@ -1,9 +1,0 @@
-use Rattle.std.proofs.Common.{◌⊎◌, ℕ, List, drop}
-use Rattle.heap_formula.specs.Words.{OneOf}
-use Rattle.list_facts.specs.Words.{IsMember}
-use Rattle.fitting_heaps.specs.LocalValues.{IsLonger}
-use Rattle.fitting_heaps.proofs.choices.all_longer.Given as goal
-
-abbrev pub invariant-loop-locals : goal.invariant-loop-locals
-invariant-loop-locals l =
-    (e : List ℕ) → OneOf (λ s. IsLonger l.greatest l.stack l.pure s e) l.shorter → IsMember e l.out.items ⊎ OneOf (λ s. IsLonger l.greatest l.stack l.pure s e) (drop l.locals-index l.shorter)

@@ -1,7 +1,0 @@
-use Rattle.std.proofs.Common.{ℕ, List, take}
-use Rattle.list_facts.specs.Words.{IsMember}
-use Rattle.fitting_heaps.specs.LocalValues.{IsChoice}
-use Rattle.fitting_heaps.proofs.choices.choices.Given as goal
-
-abbrev pub invariant-loop-count : goal.invariant-loop-count
-invariant-loop-count l = (e : List ℕ) → IsChoice l.greatest l.count l.stack l.pure e → IsMember (take l._count e) l.all.items

@@ -1,9 +1,0 @@
-use Rattle.std.proofs.Common.{◌⊎◌, drop}
-use Rattle.heap_formula.specs.Words.{OneOf}
-use Rattle.heap_formula.specs.Cells.{Cells}
-use Rattle.fitting_heaps.specs.Bounds.{IsAmong, Unites}
-use Rattle.fitting_heaps.proofs.combining.add_unions.Given as goal
-
-abbrev pub invariant-loop-rest : goal.invariant-loop-rest
-invariant-loop-rest l =
-    (h : Cells) → (IsAmong l.greatest l.initial.out h ⊎ OneOf (λ r. Unites l.greatest l.part r h) l.others) → IsAmong l.greatest l.out h ⊎ OneOf (λ r. Unites l.greatest l.part r h) (drop l.rest-index l.others)

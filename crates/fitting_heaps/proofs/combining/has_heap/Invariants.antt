@@ -1,6 +1,0 @@
-use Rattle.std.proofs.Common.{◌⊎◌, drop}
-use Rattle.fitting_heaps.specs.Bounds.{IsAmong}
-use Rattle.fitting_heaps.proofs.combining.has_heap.Given as goal
-
-abbrev pub invariant-loop-known : goal.invariant-loop-known
-invariant-loop-known l = IsAmong l.greatest l.heaps l.heap → ⊥ ⊎ IsAmong l.greatest (drop l.known-index l.heaps) l.heap

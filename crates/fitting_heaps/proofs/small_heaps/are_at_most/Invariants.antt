@@ -1,6 +1,0 @@
-use Rattle.std.proofs.Common.{◌↔◌, drop}
-use Rattle.fitting_heaps.specs.Bounds.{AreAtMost}
-use Rattle.fitting_heaps.proofs.small_heaps.are_at_most.Given as goal
-
-abbrev pub invariant-loop-value : goal.invariant-loop-value
-invariant-loop-value l = AreAtMost l.greatest l.values ↔ AreAtMost l.greatest (drop l.value-index l.values)

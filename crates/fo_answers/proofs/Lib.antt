@@ -1,3 +1,0 @@
-pub mod OneAnswer
-pub mod OneSearch
-pub mod Texts

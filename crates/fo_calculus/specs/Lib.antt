@@ -1,2 +1,0 @@
-pub mod Calculus
-pub mod Occurring

@@ -1,0 +1,10 @@
+use Rattle.std.proofs.Common.{◌≡◌, ◌++◌, take, map}
+use Rattle.std.specs.List.{flat_map}
+use Rattle.fo_syntax.specs.Trees.{sign_of}
+use Rattle.fo_file.specs.Written.{term_tree}
+use Rattle.fo_file.proofs.values.atom_trees.push_terms.Given as goal
+
+abbrev pub invariant-loop-value : goal.invariant-loop-value
+invariant-loop-value l =
+    map sign_of l.signs.items ≡ map sign_of l.initial.signs.items
+    ++ flat_map (term_tree l.theory) (take l.value-index l.values)

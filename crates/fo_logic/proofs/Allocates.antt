@@ -1,0 +1,42 @@
+-- Endless allocation does not halt.
+use Rattle.std.proofs.Common.{◌≡◌, ℕ, zero, suc, ◌<◌, Some, refl, ap, subst, inl, inr}
+use Rattle.std.proofs.Math.ListN.{replicate}
+use Rattle.std.specs.Prelude.{slice_set}
+use Rattle.std.specs.FinMap.{insert}
+use Rattle.heap_formula.specs.declared.commands.Command.{Command}
+use Rattle.heap_formula.specs.declared.commands.Command.TheVariants.{New, Goto, Stop}
+use Rattle.heap_formula.specs.Programs.{Config, Halts, Goes, counted_from_one, next_line, jump, greatest}
+use Rattle.heap_formula.proofs.StepLaws.{may_pick}
+use Rattle.fo_logic.specs.Samples.{allocating, stopping}
+
+-- no line of the program has `stop`
+not_stop : (i : ℕ) → ¬ (counted_from_one allocating i ≡ Some Stop)
+not_stop zero e = cc
+not_stop (suc zero) e = cc
+not_stop (suc (suc zero)) e = cc
+not_stop (suc (suc (suc i))) e = cc
+
+-- each line of the program has a successor
+goes_on : (w i : ℕ) (c : Config) (x : Command) → 0 < w → counted_from_one allocating i ≡ Some x
+    → (d : Config) × Goes x w c d
+goes_on w zero c x pos e = absurd cc
+goes_on w (suc zero) c x pos e =
+    let same : New 0 1 ≡ x = cc in
+    let d = next_line c (slice_set c.stack 0 (suc (greatest c))) (insert c.heap (suc (greatest c)) (replicate 1 0)) in
+    let goes : Goes (New 0 1) w c d = (suc (greatest c), replicate 1 0, may_pick w c 1 pos, refl) in
+    (d, subst (λ y. Goes y w c d) same goes)
+goes_on w (suc (suc zero)) c x pos e =
+    let same : Goto 1 ≡ x = cc in
+    let goes : Goes (Goto 1) w c (jump c 1) = refl in
+    (jump c 1, subst (λ y. Goes y w c (jump c 1)) same goes)
+goes_on w (suc (suc (suc i))) c x pos e = absurd cc
+
+pub never_halts : (w n : ℕ) (c : Config) → 0 < w → ¬ Halts allocating w n c
+never_halts w zero c pos h = not_stop c.line h
+never_halts w (suc n) c pos (inl h) = not_stop c.line h
+never_halts w (suc n) c pos (inr r) =
+    let next = goes_on w c.line c r.0 pos r.1 in never_halts w n next.0 pos (r.3 next.0 next.1)
+
+pub halts : (w n : ℕ) (c : Config) → c.line ≡ 1 → Halts stopping w n c
+halts w zero c l = ap (counted_from_one stopping) l
+halts w (suc n) c l = inl (ap (counted_from_one stopping) l)

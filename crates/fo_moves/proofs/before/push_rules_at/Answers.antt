@@ -1,4 +1,0 @@
-use Rattle.fo_moves.proofs.before.push_rules_at.Goals as goal
-
-pub returns-in-Replacements : goal.returns-in-Replacements
-returns-in-Replacements c = rw c.in-Replacements.is c.push_replacements.ensures

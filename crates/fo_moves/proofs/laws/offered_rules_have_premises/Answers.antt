@@ -1,8 +1,0 @@
-use Rattle.fo_moves.proofs.Offered.{before_goes, after_goes}
-use Rattle.fo_moves.proofs.laws.offered_rules_have_premises.Goals as goal
-
-pub returns-clause-before : goal.returns-clause-before
-returns-clause-before c = before_goes
-
-pub returns-clause-after : goal.returns-clause-after
-returns-clause-after c = after_goes

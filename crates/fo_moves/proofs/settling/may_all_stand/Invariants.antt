@@ -1,7 +1,0 @@
-use Rattle.std.proofs.Common.{◌≡◌, drop}
-use Rattle.std.specs.List.{list_all}
-use Rattle.fo_moves.specs.Choosing.{may_stand}
-use Rattle.fo_moves.proofs.settling.may_all_stand.Given as goal
-
-abbrev pub invariant-loop-atom : goal.invariant-loop-atom
-invariant-loop-atom l = list_all (may_stand l.change l.others) (drop l.atom-index l.atoms) ≡ list_all (may_stand l.change l.others) l.atoms

@@ -1,7 +1,0 @@
-use Rattle.std.proofs.Common.{◌≡◌, drop}
-use Rattle.std.specs.List.{list_all}
-use Rattle.fo_moves.specs.Choosing.{settles_word}
-use Rattle.fo_moves.proofs.settling.settles_words.Given as goal
-
-abbrev pub invariant-loop-word : goal.invariant-loop-word
-invariant-loop-word l = list_all (settles_word l.change) (drop l.word-index l.words) ≡ list_all (settles_word l.change) l.words

@@ -1,7 +1,0 @@
-use Rattle.std.proofs.Common.{◌≡◌, drop}
-use Rattle.std.specs.List.{list_any}
-use Rattle.fo_table.specs.Tests.{same_word}
-use Rattle.fo_moves.proofs.subterms.is_among.Given as goal
-
-abbrev pub invariant-loop-other : goal.invariant-loop-other
-invariant-loop-other l = list_any (same_word l.word) (drop l.other-index l.words) ≡ list_any (same_word l.word) l.words

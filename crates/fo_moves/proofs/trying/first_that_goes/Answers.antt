@@ -1,9 +1,0 @@
-use Rattle.std.proofs.Common.{◌∙◌}
-use Rattle.std.proofs.lemmas.Result.{IfOk-weaker}
-use Rattle.fo_moves.specs.Trying.{goes}
-use Rattle.fold_offers.proofs.Keeping.{first_of_filter}
-use Rattle.fo_moves.proofs.trying.first_that_goes.Goals as goal
-
-pub returns : goal.returns
-returns c =
-    IfOk-weaker c.first_that_go.result _ _ (λ v is. is ∙ first_of_filter (goes c.args.theory.now c.args.sequent.now) c.args.rules.items) c.first_that_go.ensures

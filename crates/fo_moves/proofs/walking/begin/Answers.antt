@@ -1,5 +1,0 @@
-use Rattle.fo_moves.proofs.Beginnings.{begins_all}
-use Rattle.fo_moves.proofs.walking.begin.Goals as goal
-
-pub returns : goal.returns
-returns c test values = begins_all test values c.args.count c.new.result.items c.new.ensures.items

@@ -1,5 +1,0 @@
-use Rattle.fo_moves.proofs.Beginnings.{none_added}
-use Rattle.fo_moves.proofs.walking.push_value.Goals as goal
-
-pub returns-in_default : goal.returns-in_default
-returns-in_default c = none_added c.args.terms.now.items c.args.values.now c.args.place c.in_default.ensures.lookup.3

@@ -1,9 +1,0 @@
-pub mod Trying
-pub mod Subterms
-pub mod Before
-pub mod Links
-pub mod After
-pub mod Choosing
-pub mod Walks
-pub mod Lines
-pub mod Told

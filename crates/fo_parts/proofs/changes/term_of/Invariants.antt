@@ -1,6 +1,0 @@
-use Rattle.std.proofs.Common.{◌≡◌, drop}
-use Rattle.fo_table.specs.Table.{image}
-use Rattle.fo_parts.proofs.changes.term_of.Given as goal
-
-abbrev pub invariant-loop-from : goal.invariant-loop-from
-invariant-loop-from l = image (drop l.from-index l.pairs) l.n ≡ image l.pairs l.n

@@ -1,7 +1,0 @@
-use Rattle.std.proofs.Common.{◌≡◌, ◌≤◌, ◌+◌, drop}
-use Rattle.fo_parts.specs.Capping.{capped}
-use Rattle.fo_formula.specs.Sizes.{words_size}
-use Rattle.fo_parts.proofs.sizes.size_of_terms.Given as goal
-
-abbrev pub invariant-loop-term : goal.invariant-loop-term
-invariant-loop-term l = (l.size ≤ 4097) × (capped (l.size + words_size (drop l.term-index l.terms)) ≡ capped (words_size l.terms))

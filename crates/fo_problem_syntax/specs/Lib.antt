@@ -1,4 +1,0 @@
-pub mod Words
-pub mod Lists
-pub mod Trees
-pub mod Grammar

@@ -1,4 +1,0 @@
-pub mod ReasonParts
-pub mod ProofLaws
-pub mod ProofEnds
-pub mod WrittenFiles

@@ -1,0 +1,11 @@
+use Rattle.std.proofs.Common.{◌≡◌, ◌≤◌, ◌+◌, map, drop}
+use Rattle.fo_rules.specs.Capping.{capped}
+use Rattle.fo_formula.specs.Words.{in_atom}
+use Rattle.fo_formula.specs.Sizes.{atoms_size}
+use Rattle.fo_rules.specs.Putting.{put}
+use Rattle.fo_rules.proofs.parts.sizes.size_of_changed_atoms.Given as goal
+
+abbrev pub invariant-loop-atom : goal.invariant-loop-atom
+invariant-loop-atom l = (l.size ≤ 4097) × (capped (l.size + atoms_size
+    (map (in_atom (put l.change)) (drop l.atom-index l.atoms)))
+    ≡ capped (atoms_size (map (in_atom (put l.change)) l.atoms)))

@@ -1,0 +1,5 @@
+use Rattle.fo_search.proofs.LawFound.{makes_proof}
+use Rattle.fo_search.proofs.laws.found_is_proof.Goals as goal
+
+pub returns : goal.returns
+returns c = makes_proof

@@ -1,0 +1,8 @@
+use Rattle.std.proofs.Common.{◌≡◌, ◌++◌, ◌-◌}
+use Rattle.std.specs.List.{filter, range_with_len}
+use Rattle.fo_search.specs.Links.{stands_in}
+use Rattle.fo_search.proofs.moves.variables.variables.Given as goal
+
+abbrev pub invariant-loop-n : goal.invariant-loop-n
+invariant-loop-n l = l.all.items ++ filter (λ n. stands_in n l.sequent) (range_with_len l.n (l.bound - l.n))
+    ≡ filter (λ n. stands_in n l.sequent) (range_with_len 0 l.bound)

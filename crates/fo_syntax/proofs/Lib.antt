@@ -1,0 +1,17 @@
+pub mod StepLaws
+pub mod StepLoops
+pub mod StepWrites
+pub mod BracketLaws
+pub mod CountLaws
+pub mod TermLaws
+pub mod TermEnds
+pub mod TermFits
+pub mod PlaceLaws
+pub mod AtomTexts
+pub mod ListLaws
+pub mod TheoryLaws
+pub mod TheoryEnds
+pub mod ReasonParts
+pub mod ProofLaws
+pub mod ProofEnds
+pub mod WrittenFiles

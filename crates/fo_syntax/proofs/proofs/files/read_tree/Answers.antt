@@ -1,0 +1,59 @@
+use Rattle.std.proofs.Common.{◌≡◌, true, List, sym, subst}
+use Rattle.std.specs.Prelude.{map}
+use Rattle.cyc_lex.specs.Word.{Word, word_of}
+use Rattle.cyc_grammar.specs.Syntax.{read_whole}
+use Rattle.cyc_grammar.specs.Classes.{are_tokens}
+use Rattle.cyc_grammar.specs.Giving.{Gives}
+use Rattle.cyc_grammar.proofs.WholeTexts.{words-placed, all-tokens, ok-exact, ok-again, err-within, err-exact}
+use Rattle.cyc_grammar.proofs.WholeTexts.{err-again}
+use Rattle.fo_syntax.specs.ProofGrammar.{file}
+use Rattle.fo_syntax.specs.ProofTrees.{file_of}
+use Rattle.fo_syntax.proofs.ProofLaws.{file-law}
+use Rattle.fo_syntax.proofs.ProofEnds.{file-last}
+use Rattle.fo_syntax.proofs.proofs.files.read_tree.Goals as goal
+
+pub whole_file-requires : goal.whole_file-requires
+whole_file-requires c =
+    let same = words-placed c.as_slice.result.now c.args.tokens.now c.as_slice.ensures in
+    subst (λ (ws : List Word). are_tokens ws ≡ true) (sym same)
+    (all-tokens (map word_of c.args.tokens.now) c.requires.words)
+
+pub read_fault-requires-clause-within : goal.read_fault-requires-clause-within
+read_fault-requires-clause-within c =
+    let same = words-placed c.as_slice.result.now c.args.tokens.now c.as_slice.ensures in
+    let given = subst (λ (ws : List Word). Gives file_of c.whole_file.result (read_whole file ws))
+    same c.whole_file.ensures in
+    err-within file file-law file-last file_of c.args.tokens.now c.whole_file.result c.in-Err.refusal c.in-Err.is given
+    c.requires.words
+
+pub returns-in-Ok-clause-exact : goal.returns-in-Ok-clause-exact
+returns-in-Ok-clause-exact c =
+    let same = words-placed c.as_slice.result.now c.args.tokens.now c.as_slice.ensures in
+    let given = subst (λ (ws : List Word). Gives file_of c.whole_file.result (read_whole file ws))
+    same c.whole_file.ensures in
+    ok-exact file file-law file_of (map word_of c.args.tokens.now) c.whole_file.result c.in-Ok.tree c.in-Ok.is given
+
+pub returns-in-Ok-clause-again : goal.returns-in-Ok-clause-again
+returns-in-Ok-clause-again c =
+    let same = words-placed c.as_slice.result.now c.args.tokens.now c.as_slice.ensures in
+    let given = subst (λ (ws : List Word). Gives file_of c.whole_file.result (read_whole file ws))
+    same c.whole_file.ensures in
+    ok-again file file-law file_of (map word_of c.args.tokens.now) c.whole_file.result c.in-Ok.tree c.in-Ok.is given
+
+pub returns-in-Err-clause-exact : goal.returns-in-Err-clause-exact
+returns-in-Err-clause-exact c =
+    let same = words-placed c.as_slice.result.now c.args.tokens.now c.as_slice.ensures in
+    let given = subst (λ (ws : List Word). Gives file_of c.whole_file.result (read_whole file ws))
+    same c.whole_file.ensures in
+    let within = err-within file file-law file-last file_of c.args.tokens.now c.whole_file.result c.in-Err.refusal
+    c.in-Err.is given c.requires.words in
+    err-exact file file-law file_of c.args.tokens.now c.whole_file.result c.in-Err.refusal c.read_fault.result
+    c.in-Err.is given within c.read_fault.ensures
+
+pub returns-in-Err-clause-again : goal.returns-in-Err-clause-again
+returns-in-Err-clause-again c =
+    let same = words-placed c.as_slice.result.now c.args.tokens.now c.as_slice.ensures in
+    let given = subst (λ (ws : List Word). Gives file_of c.whole_file.result (read_whole file ws))
+    same c.whole_file.ensures in
+    err-again file file-law file_of c.args.tokens.now c.whole_file.result c.in-Err.refusal c.read_fault.result
+    c.in-Err.is given c.read_fault.ensures

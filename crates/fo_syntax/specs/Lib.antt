@@ -1,0 +1,16 @@
+pub mod Words
+pub mod Steps
+pub mod Trees
+pub mod Brackets
+pub mod Fits
+pub mod Depth
+pub mod Seen
+pub mod Grammar
+pub mod Places
+pub mod ProblemWords
+pub mod Lists
+pub mod ProblemTrees
+pub mod ProblemGrammar
+pub mod ProofWords
+pub mod ProofTrees
+pub mod ProofGrammar

@@ -1,9 +1,0 @@
-pub mod Words
-pub mod Steps
-pub mod Trees
-pub mod Brackets
-pub mod Fits
-pub mod Depth
-pub mod Seen
-pub mod Grammar
-pub mod Places

@@ -1,3 +1,0 @@
-pub mod Adjacent
-pub mod Names
-pub mod TreesAgain

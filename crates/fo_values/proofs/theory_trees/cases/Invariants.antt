@@ -1,7 +1,0 @@
-use Rattle.std.proofs.Common.{◌≡◌, take, map}
-use Rattle.fo_problem_syntax.specs.Trees.{atoms_of}
-use Rattle.fo_values.specs.Written.{atoms_tree}
-use Rattle.fo_values.proofs.theory_trees.cases.Given as goal
-
-abbrev pub invariant-loop-value : goal.invariant-loop-value
-invariant-loop-value l = map atoms_of l.trees.items ≡ map (atoms_tree l.theory) (take l.value-index l.values)

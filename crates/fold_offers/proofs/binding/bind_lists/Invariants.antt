@@ -1,6 +1,0 @@
-use Rattle.std.proofs.Common.{◌≡◌, ◌≤◌, drop, length, Some}
-use Rattle.fold_offers.specs.Folds.{bind_terms}
-use Rattle.fold_offers.proofs.binding.bind_lists.Given as goal
-
-abbrev pub invariant-loop-k : goal.invariant-loop-k
-invariant-loop-k l = (bind_terms (Some l.binding.items) (drop l.k l.from) (drop l.k l.to) ≡ bind_terms (Some l.initial.binding.items) l.from l.to) × (l.k ≤ length l.to)

@@ -1,7 +1,0 @@
-use Rattle.std.proofs.Common.{◌≡◌, drop}
-use Rattle.std.specs.List.{list_any}
-use Rattle.fold_offers.specs.Folds.{is_named_by, is_named}
-use Rattle.fold_offers.proofs.cases.is_named.Given as goal
-
-abbrev pub invariant-loop-atom : goal.invariant-loop-atom
-invariant-loop-atom l = list_any (is_named_by l.term) (drop l.atom-index l.atoms) ≡ is_named l.atoms l.term

@@ -1,7 +1,0 @@
-use Rattle.std.proofs.Common.{◌≡◌, ◌++◌, drop}
-use Rattle.fold_offers.specs.Places.{each_of}
-use Rattle.fold_offers.specs.Folds.{folds_of_case, folds_of}
-use Rattle.fold_offers.proofs.placing.push_predicate.Given as goal
-
-abbrev pub invariant-loop-case : goal.invariant-loop-case
-invariant-loop-case l = l.rules.items ++ each_of (folds_of_case l.state l.predicate l.def.arity) (drop l.case-index l.def.cases) ≡ l.initial.rules.items ++ folds_of l.state l.predicate l.def

@@ -1,7 +1,0 @@
--- Definitions within the limits of a file.
-use Rattle.std.specs.Prelude.{◌≤◌}
-use Rattle.cyc_limits.specs.declared.TheConstants.{MOST_ARGUMENTS}
-use Rattle.heap_formula.specs.Definitions.{Definition}
-
-abbrev pub HasFewParameters : Definition → Type 0
-HasFewParameters d = d.arity ≤ MOST_ARGUMENTS

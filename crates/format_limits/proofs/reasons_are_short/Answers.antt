@@ -1,8 +1,0 @@
-use Rattle.format_limits.proofs.Shorts.{rule_short, link_short}
-use Rattle.format_limits.proofs.reasons_are_short.Goals as goal
-
-pub returns : goal.returns
-returns c = record {
-  rules = λ most ds lines j rule ps bounded d h e. rule_short most bounded ds lines j ps d h rule e;
-  links = link_short;
-}

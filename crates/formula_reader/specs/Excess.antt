@@ -1,0 +1,121 @@
+-- The first limit of the formats that values pass, in the order of a text.
+use Rattle.std.specs.Prelude.{ℕ, ◌+◌, Bool, true, not, ◌&&◌, ◌||◌, nat_eq, nat_lt, nat_le, if◌then◌else◌, List, [], ◌∷◌}
+use Rattle.std.specs.Prelude.{length, take, Option, Some, None, is_none}
+use Rattle.std.specs.List.{list_all}
+use Rattle.std.specs.Option.{option_map, option_or}
+use Rattle.cyc_basics.specs.declared.limits.TheConstants.{MOST_ARGUMENTS, MOST_CASES, MOST_LOCALS}
+use Rattle.heap_formula.specs.declared.atoms.Spatial.{Spatial}
+use Rattle.heap_formula.specs.declared.atoms.Spatial.TheVariants.{Cell, Pred}
+use Rattle.heap_formula.specs.declared.commands.Command.{Command}
+use Rattle.heap_formula.specs.declared.commands.Command.TheVariants.{IfAny}
+use Rattle.heap_formula.specs.declared.judgements.Judgement.{Judgement}
+use Rattle.heap_formula.specs.declared.judgements.Judgement.TheVariants.{Entail, Term as Runs}
+use Rattle.heap_formula.specs.Definitions.{Definition}
+use Rattle.heap_formula.specs.Fresh.{heap_bound, heap_exists}
+use Rattle.heap_formula.specs.Symbolic.{SymbolicHeap}
+use Rattle.pred_defs.specs.Faults.{use_fault, has_name}
+use Rattle.rule_table.specs.Answer.{is_short, has_numbers}
+use Rattle.rule_table.specs.Tests.{is_universal_heap}
+use Rattle.cyc_grammar.specs.Classes.{is_free_name}
+use Rattle.heap_syntax.specs.Words.{reserved}
+use Rattle.heap_syntax.specs.declared.version.Version.{Version}
+use Rattle.heap_syntax.specs.LineGrammar.{has_free_branches}
+use Rattle.formula_reader.specs.declared.limits.excess.HeapExcess.{HeapExcess}
+use Rattle.formula_reader.specs.declared.limits.excess.HeapExcess.TheVariants.{Atoms, Variable, Predicate, Fields}
+use Rattle.formula_reader.specs.declared.limits.excess.CaseExcess.{CaseExcess}
+use Rattle.formula_reader.specs.declared.limits.excess.CaseExcess.TheVariants.{Heap, Parameter, Locals}
+use Rattle.formula_reader.specs.declared.limits.excess.DefinitionExcess.{DefinitionExcess}
+use Rattle.formula_reader.specs.declared.limits.excess.DefinitionExcess.TheVariants.{Name, Duplicate, Parameters, Cases}
+use Rattle.formula_reader.specs.declared.limits.excess.DefinitionExcess.TheVariants.{Case}
+use Rattle.formula_reader.specs.declared.limits.excess.JudgementExcess.{JudgementExcess}
+use Rattle.formula_reader.specs.declared.limits.excess.JudgementExcess.TheVariants.{Line, Antecedent, Disjunct}
+use Rattle.formula_reader.specs.declared.limits.excess.JudgementExcess.TheVariants.{Existential}
+use Rattle.formula_reader.specs.declared.limits.excess.ProblemExcess.{ProblemExcess}
+use Rattle.formula_reader.specs.declared.limits.excess.ProblemExcess.TheVariants.{Definition as OfDefinition}
+use Rattle.formula_reader.specs.declared.limits.excess.ProblemExcess.TheVariants.{Command as OfCommand, Goal as OfGoal}
+
+-- the first that is found at a member of a list, before which n members stand
+abbrev pub first_of : {X E : Type 0} → (ℕ → X → Option E) → ℕ → List X → Option E
+first_of f n [] = None
+first_of f n (x ∷ xs) = option_or (f n x) (first_of f (n + 1) xs)
+
+-- ---- heaps
+
+-- a cell has one to eight fields
+abbrev pub has_fields : Spatial → Bool
+has_fields (Cell t ts) = nat_lt 0 (length ts) && nat_le (length ts) MOST_ARGUMENTS
+has_fields (Pred q ts) = true
+
+-- a predicate is defined, and has as many arguments
+abbrev pub is_use : List Definition → Spatial → Bool
+is_use ds x = is_none (use_fault ds x)
+
+abbrev pub heap_excess : ℕ → List Definition → SymbolicHeap → Option HeapExcess
+heap_excess most ds a =
+    if not (is_short most a) then Some Atoms
+    else if not (has_numbers a) then Some Variable
+    else if not (list_all (is_use ds) a.spatial) then Some Predicate
+    else if not (list_all has_fields a.spatial) then Some Fields
+    else None
+
+-- ---- definitions
+
+abbrev pub case_excess : ℕ → List Definition → ℕ → SymbolicHeap → Option CaseExcess
+case_excess most ds arity c =
+    option_or (option_map Heap (heap_excess most ds c)) (if nat_lt arity (heap_bound c) then Some Parameter
+    else if nat_lt MOST_LOCALS (heap_exists c) then Some Locals
+    else None)
+
+abbrev pub case_at : ℕ → List Definition → ℕ → ℕ → SymbolicHeap → Option DefinitionExcess
+case_at most ds arity n c = option_map (Case n) (case_excess most ds arity c)
+
+-- n definitions stand before
+abbrev pub definition_excess : ℕ → List Definition → ℕ → Definition → Option DefinitionExcess
+definition_excess most ds n d =
+    if not (is_free_name reserved d.name) then Some Name
+    else if has_name (take n ds) d.name then Some Duplicate
+    else if nat_lt MOST_ARGUMENTS d.arity then Some Parameters
+    else if nat_eq (length d.cases) 0 || nat_lt MOST_CASES (length d.cases) then Some Cases
+    else first_of (case_at most ds d.arity) 0 d.cases
+
+abbrev pub definition_at : ℕ → List Definition → ℕ → Definition → Option ProblemExcess
+definition_at most ds n d = option_map (OfDefinition n) (definition_excess most ds n d)
+
+abbrev pub definitions_excess : ℕ → List Definition → Option ProblemExcess
+definitions_excess most ds = first_of (definition_at most ds) 0 ds
+
+-- ---- lines
+
+-- the version has the command
+abbrev pub is_command_of : Version → Command → Bool
+is_command_of version (IfAny j) = has_free_branches version
+is_command_of version c = true
+
+abbrev pub line_at : Version → ℕ → Command → Option ProblemExcess
+line_at version n c = if is_command_of version c then None else Some (OfCommand (n + 1))
+
+abbrev pub lines_excess : Version → List Command → Option ProblemExcess
+lines_excess version cs = first_of (line_at version) 0 cs
+
+-- ---- judgements
+
+abbrev pub antecedent_excess : ℕ → List Definition → SymbolicHeap → Option JudgementExcess
+antecedent_excess most ds a =
+    option_or (option_map Antecedent (heap_excess most ds a)) (if is_universal_heap a then None else Some Existential)
+
+abbrev pub disjunct_at : ℕ → List Definition → ℕ → SymbolicHeap → Option JudgementExcess
+disjunct_at most ds n b = option_map (Disjunct n) (heap_excess most ds b)
+
+-- over so many lines
+abbrev pub judgement_excess : ℕ → List Definition → ℕ → Judgement → Option JudgementExcess
+judgement_excess most ds count (Entail a bs) = option_or (antecedent_excess most ds a)
+    (first_of (disjunct_at most ds) 0 bs)
+judgement_excess most ds count (Runs i a)
+    = if nat_eq i 0 || nat_lt count i then Some Line else antecedent_excess most ds a
+
+-- ---- problems
+
+abbrev pub problem_excess : Version → ℕ → List Definition → List Command → Judgement → Option ProblemExcess
+problem_excess version most ds lines goal =
+    option_or (definitions_excess most ds) (option_or (lines_excess version lines)
+    (option_map OfGoal (judgement_excess most ds (length lines) goal)))

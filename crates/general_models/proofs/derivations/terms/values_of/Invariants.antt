@@ -1,0 +1,7 @@
+use Rattle.std.proofs.Common.{◌≡◌, ◌++◌, drop}
+use Rattle.heap_formula.specs.Values.{values}
+use Rattle.general_models.proofs.derivations.terms.values_of.Given as goal
+
+abbrev pub invariant-loop-term : goal.invariant-loop-term
+invariant-loop-term l = l.found.items ++ values l.stack l.locals (drop l.term-index l.terms)
+    ≡ values l.stack l.locals l.terms

@@ -1,0 +1,58 @@
+use Rattle.std.proofs.Common.{◌∙◌, ◌-◌, false, List, length, map, refl, sym, ap, subst, arith}
+use Rattle.std.proofs.lemmas.List.{length-map}
+use Rattle.cyc_lex.specs.Word.{Word, word_of}
+use Rattle.cyc_lex.specs.Placed.{placed}
+use Rattle.cyc_grammar.specs.Giving.{Fails}
+use Rattle.heap_syntax.specs.DefinitionGrammar.{terms, heap}
+use Rattle.heap_syntax.specs.DefinitionTrees.{heap_of}
+use Rattle.heap_syntax.proofs.DefinitionLaws.{heap-lawful}
+use Rattle.heap_syntax.proofs.DefinitionEnds.{heap-of}
+use Rattle.heap_reader.proofs.DefinitionSpanLaws.{heap_words}
+use Rattle.heap_reader.specs.Items.{IsItem, heap_found, says_heap}
+use Rattle.heap_reader.proofs.Parts.{part_within, part_fault, part_spelled, behind_fits}
+use Rattle.heap_reader.proofs.items.reading.read_heap.Goals as goal
+
+pub read_fault-requires-clause-within : goal.read_fault-requires-clause-within
+read_fault-requires-clause-within c =
+    let ts = c.args.tokens.now in
+    let size = length-map ts word_of in
+    part_within (heap (terms false)) (heap-lawful false) (heap-of false) (map word_of ts) c.args.place (length ts)
+    c.in-Err.refusal c.requires.words (omega (arith, size, c.requires.there)) size
+    (subst (λ (ws : List Word). Fails c.in-Err.refusal ((heap (terms false)).read ws))
+    c.cursor_at-cursor.ensures c.in-Err.ensures)
+
+pub returns-in-Err : goal.returns-in-Err
+returns-in-Err c =
+    let book = c.args.defs.now in
+    part_fault (heap (terms false)) (heap-lawful false) (heap-of false)
+    (λ tree. IsItem (heap_found book c.args.place tree) (says_heap book tree) heap_of tree)
+    c.args.tokens.now c.args.place c.in-Err.refusal c.read_fault.result c.requires.words c.requires.there
+    (subst (λ (ws : List Word). Fails c.in-Err.refusal ((heap (terms false)).read ws))
+    c.cursor_at-cursor.ensures c.in-Err.ensures) c.read_fault.ensures
+
+pub heap_item-requires : goal.heap_item-requires
+heap_item-requires c =
+    let ts = c.args.tokens.now in
+    let tree = heap_of c.in-Ok.tree in
+    let fits = behind_fits (heap (terms false)) (heap-lawful false) ts c.args.place tree c.heap.new.cursor
+    (sym (ap (heap (terms false)).read c.cursor_at-cursor.ensures) ∙ c.in-Ok.ensures) c.requires.there in
+    omega (arith, fits.1, heap_words false tree fits.0, c.requires.few)
+
+pub overflow_sub-behind : goal.overflow_sub-behind
+overflow_sub-behind c =
+    let ts = c.args.tokens.now in
+    let tree = heap_of c.in-Ok.tree in
+    let fits = behind_fits (heap (terms false)) (heap-lawful false) ts c.args.place tree c.heap.new.cursor
+    (sym (ap (heap (terms false)).read c.cursor_at-cursor.ensures) ∙ c.in-Ok.ensures) c.requires.there in
+    omega (arith, fits.2, ap length c.as_slice.ensures, length-map c.as_slice.result.now placed, c.left.ensures)
+
+pub returns : goal.returns
+returns c =
+    let ts = c.args.tokens.now in
+    let tree = heap_of c.in-Ok.tree in
+    let count = length-map c.as_slice.result.now placed in
+    let spelled = part_spelled (heap (terms false)) (heap-lawful false) ts c.args.place
+    (length c.as_slice.result.now - c.left.result) (length c.as_slice.result.now)
+    c.left.result tree c.heap.new.cursor (sym (ap (heap (terms false)).read c.cursor_at-cursor.ensures)
+    ∙ c.in-Ok.ensures) c.requires.there (omega (arith, count, ap length c.as_slice.ensures)) c.left.ensures refl in
+    (tree, spelled, c.in_ok-item.ensures)

@@ -1,0 +1,72 @@
+// Terms with numbered variables, and where they stand.
+ghost use Rattle.std.specs.Prelude.{◌+◌, ◌<◌, ◌^◌};
+ghost use Rattle.cyc_lex.specs.declared.fault.What.TheVariants.{Variable};
+ghost use Rattle.heap_syntax.specs.declared.definitions.tree.TermTree.TheVariants.{Univ};
+ghost use Rattle.heap_reader.specs.Flaws.{IsWalk};
+ghost use Rattle.heap_reader.specs.DefinitionFlaws.{term_flaw};
+ghost use Rattle.heap_reader.specs.declared.definitions.scope.Scope.TheVariants.{Outside};
+
+use crate::{Flaw, TermReader, ill, over};
+use cyc_basics::limits::{GREATEST_LOCAL, GREATEST_VARIABLE};
+use cyc_lex::{IllFault, What};
+use heap_formula::Term;
+use heap_syntax::definitions::TermTree;
+
+/// Where a term stands: outside cases, or in a case of a predicate with so many parameters.
+#[derive(Clone, Copy)]
+pub enum Scope {
+    Outside,
+    Case(u32),
+}
+
+fn outside_number(at: usize, n: u32) -> Result<usize, Flaw>
+    requires { at + 3 < 2 ^ 64 }
+    ensures { IsWalk result (term_flaw Outside at (Univ n)) (at + 3) }
+{
+    if n > GREATEST_VARIABLE {
+        return Err(over(What::Variable, at + 1));
+    }
+    Ok(at + 3)
+}
+
+impl TermReader for Scope {
+    ghost use Rattle.heap_reader.specs.DefinitionSpans as spans;
+    ghost use Rattle.heap_reader.specs.DefinitionFlaws as flaws;
+    ghost use Rattle.heap_reader.specs.DefinitionValues as values;
+
+    type Term = TermTree;
+
+    ghost span = { spans.term_span };
+
+    ghost flaw = { flaws.term_flaw };
+
+    ghost value = { values.term_value };
+
+    fn walk(&self, at: usize, term: TermTree) -> Result<usize, Flaw> {
+        match (*self, term) {
+            (_, TermTree::Nil) => Ok(at + 2),
+            (Scope::Outside, TermTree::Univ(n)) => outside_number(at, n),
+            (Scope::Outside, TermTree::Exist(n)) => outside_number(at, n),
+            (Scope::Case(arity), TermTree::Univ(n)) => {
+                if n >= arity {
+                    return Err(ill(IllFault::Parameter, at + 1));
+                }
+                Ok(at + 3)
+            }
+            (Scope::Case(_), TermTree::Exist(n)) => {
+                if n > GREATEST_LOCAL {
+                    return Err(over(What::Locals, at + 1));
+                }
+                Ok(at + 3)
+            }
+        }
+    }
+
+    fn value(&self, term: TermTree) -> Term {
+        match term {
+            TermTree::Nil => Term::Nil,
+            TermTree::Univ(n) => Term::Univ(n as u16),
+            TermTree::Exist(n) => Term::Exist(n as u16),
+        }
+    }
+}

@@ -1,0 +1,52 @@
+use Rattle.std.proofs.Common.{◌≡◌, ◌+◌, drop, ap, arith, refl}
+use Rattle.std.specs.Prelude.{map}
+use Rattle.cyc_lex.specs.Writing.{write_all}
+use Rattle.cyc_grammar.specs.Syntax.{words_many, after}
+use Rattle.cyc_grammar.proofs.WrittenTexts.{left-item, none-at, wrote-item, wrote-all, wrote-behind, item-fits}
+use Rattle.heap_syntax.specs.Trees.{spatial_of}
+use Rattle.heap_syntax.specs.Words.{star}
+use Rattle.heap_syntax.specs.Grammar.{spatial}
+use Rattle.heap_syntax.proofs.writing.heaps.write_more_spatials.Goals as goal
+
+pub write_spatial-requires : goal.write_spatial-requires
+write_spatial-requires g c =
+    let left = ap (map (spatial_of g.F.TermForm.seen))
+    (left-item c.args.trees.now c.loop-tree.tree-index c.tree-item.result c.loop-tree-test.true c.tree-item.is) in
+    λ k. (
+      (refl, tt),
+      (item-fits (after star (spatial (g.F.TermForm.terms c.args.form.now)))
+          (spatial_of g.F.TermForm.seen c.tree-item.result) (map (spatial_of g.F.TermForm.seen)
+          (drop (c.loop-tree.tree-index + 1) c.args.trees.now))
+          (map (spatial_of g.F.TermForm.seen) (drop c.loop-tree.tree-index c.args.trees.now))
+          left c.loop-tree.invariant.1).0,
+    )
+
+pub loop-tree-preserved : goal.loop-tree-preserved
+loop-tree-preserved g c =
+    let left = ap (map (spatial_of g.F.TermForm.seen))
+    (left-item c.args.trees.now c.loop-tree.tree-index c.tree-item.result c.loop-tree-test.true c.tree-item.is) in
+    let wrote : c.write_spatial.new.writer ≡ write_all c.loop-tree.writer
+    ((after star (spatial (g.F.TermForm.terms c.args.form.now))).words
+    (spatial_of g.F.TermForm.seen c.tree-item.result))
+    = wrote-behind _ _ _ _ _ c.in_ok-symbol.ensures.ok c.in_ok-write_spatial.ensures in (
+      wrote-item (after star (spatial (g.F.TermForm.terms c.args.form.now)))
+          c.loop-tree.writer c.write_spatial.new.writer (write_all c.args.writer.now
+          (words_many (after star (spatial (g.F.TermForm.terms c.args.form.now)))
+          (map (spatial_of g.F.TermForm.seen) (c.args.trees.now)))) (spatial_of g.F.TermForm.seen c.tree-item.result)
+          (map (spatial_of g.F.TermForm.seen) (drop (c.loop-tree.tree-index + 1) c.args.trees.now))
+          (map (spatial_of g.F.TermForm.seen) (drop c.loop-tree.tree-index c.args.trees.now))
+          left wrote c.loop-tree.invariant.0,
+      (item-fits (after star (spatial (g.F.TermForm.terms c.args.form.now)))
+          (spatial_of g.F.TermForm.seen c.tree-item.result) (map (spatial_of g.F.TermForm.seen)
+          (drop (c.loop-tree.tree-index + 1) c.args.trees.now))
+          (map (spatial_of g.F.TermForm.seen) (drop c.loop-tree.tree-index c.args.trees.now))
+          left c.loop-tree.invariant.1).1,
+    )
+
+pub returns : goal.returns
+returns g c = wrote-all (after star (spatial (g.F.TermForm.terms c.args.form.now))) c.loop-tree.writer
+    (write_all c.args.writer.now (words_many (after star (spatial (g.F.TermForm.terms c.args.form.now)))
+    (map (spatial_of g.F.TermForm.seen) (c.args.trees.now))))
+    (map (spatial_of g.F.TermForm.seen) (drop c.loop-tree.tree-index c.args.trees.now))
+    (ap (map (spatial_of g.F.TermForm.seen)) (none-at c.args.trees.now c.loop-tree.tree-index (omega arith)))
+    c.loop-tree.invariant.0

@@ -1,0 +1,11 @@
+//! Writing symbolic heaps, lists of numbers and definitions of predicates, as the grammar has them.
+
+mod atoms;
+mod definitions;
+mod heaps;
+mod numbers;
+mod term_heaps;
+
+pub use definitions::write_definitions;
+pub use numbers::{write_bracketed, write_premises};
+pub use term_heaps::{write_heap, write_heaps};

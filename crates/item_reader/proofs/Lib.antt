@@ -1,3 +1,0 @@
-mod Stable
-mod DefinitionLaw
-mod Parts

@@ -1,4 +1,0 @@
-pub mod Spans
-pub mod LineFlaws
-pub mod Values
-pub mod Small

@@ -1,5 +1,0 @@
-pub mod Bits
-pub mod Options
-pub mod Parts
-pub mod Places
-pub mod Tests

@@ -1,9 +1,0 @@
-pub mod Answers
-pub mod Fairness
-pub mod Made
-pub mod Rows
-pub mod Right
-pub mod Graph
-pub mod Found
-pub mod Steps
-pub mod ByTarget

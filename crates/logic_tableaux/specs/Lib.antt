@@ -1,5 +1,0 @@
-pub mod Calculus
-pub mod Searches
-pub mod Nodes
-pub mod Found
-pub mod Effects

@@ -1,4 +1,0 @@
-pub mod Segments
-pub mod Endless
-pub mod Free
-pub mod Allocates

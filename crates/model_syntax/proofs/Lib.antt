@@ -1,3 +1,0 @@
-pub mod ModelLaws
-pub mod ModelEnds
-mod ModelWriting

@@ -1,9 +1,0 @@
-use Rattle.std.proofs.Common.{◌≡◌, map, take}
-use Rattle.problem_syntax.specs.Trees as named
-use Rattle.name_numbers.specs.Numbered.{heap_of}
-use Rattle.name_numbers.specs.Numbering.{case}
-use Rattle.name_numbers.specs.Views.{names_of}
-use Rattle.name_numbers.proofs.definitions.cases.Given as goal
-
-abbrev pub invariant-loop-tree : goal.invariant-loop-tree
-invariant-loop-tree l = map heap_of l.cases.items ≡ map (case (names_of l.parameters)) (map named.heap_of (take l.tree-index l.trees))

@@ -1,8 +1,0 @@
-use Rattle.std.proofs.Common.{◌≡◌, map, take}
-use Rattle.problem_syntax.specs.Trees as named
-use Rattle.name_numbers.specs.Numbered.{definition_of}
-use Rattle.name_numbers.specs.Numbering.{definition}
-use Rattle.name_numbers.proofs.definitions.definitions.Given as goal
-
-abbrev pub invariant-loop-tree : goal.invariant-loop-tree
-invariant-loop-tree l = map definition_of l.definitions.items ≡ map definition (map named.definition_of (take l.tree-index l.trees))

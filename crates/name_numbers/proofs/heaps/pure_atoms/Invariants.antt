@@ -1,9 +1,0 @@
-use Rattle.std.proofs.Common.{◌≡◌, map, take}
-use Rattle.heap_syntax.specs.Trees.{pure_of}
-use Rattle.problem_syntax.specs.Trees.{named_of}
-use Rattle.name_numbers.specs.Numbering.{term}
-use Rattle.name_numbers.specs.Views.{scope_of}
-use Rattle.name_numbers.proofs.heaps.pure_atoms.Given as goal
-
-abbrev pub invariant-loop-tree : goal.invariant-loop-tree
-invariant-loop-tree l = l.atoms.items ≡ map (pure_of (term (scope_of l.scope))) (map (pure_of named_of) (take l.tree-index l.trees))

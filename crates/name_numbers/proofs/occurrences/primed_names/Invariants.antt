@@ -1,6 +1,0 @@
-use Rattle.std.proofs.Common.{◌≡◌, map, take, filter}
-use Rattle.name_numbers.specs.Views.{name_of}
-use Rattle.name_numbers.proofs.occurrences.primed_names.Given as goal
-
-abbrev pub invariant-loop-name : goal.invariant-loop-name
-invariant-loop-name l = map name_of l.names.items ≡ filter (λ n. n.primed) (map name_of (take l.name-index l.uses))

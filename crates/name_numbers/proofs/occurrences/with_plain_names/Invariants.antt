@@ -1,6 +1,0 @@
-use Rattle.std.proofs.Common.{◌≡◌, ◌++◌, map, take, filter, not}
-use Rattle.name_numbers.specs.Views.{name_of}
-use Rattle.name_numbers.proofs.occurrences.with_plain_names.Given as goal
-
-abbrev pub invariant-loop-name : goal.invariant-loop-name
-invariant-loop-name l = map name_of l.names.items ≡ map name_of l.fn.names.items ++ filter (λ n. not n.primed) (map name_of (take l.name-index l.uses))

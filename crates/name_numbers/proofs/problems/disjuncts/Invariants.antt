@@ -1,9 +1,0 @@
-use Rattle.std.proofs.Common.{◌≡◌, map, take}
-use Rattle.problem_syntax.specs.Trees as named
-use Rattle.name_numbers.specs.Numbered.{heap_of}
-use Rattle.name_numbers.specs.Numbering.{disjunct}
-use Rattle.name_numbers.specs.Views.{names_of}
-use Rattle.name_numbers.proofs.problems.disjuncts.Given as goal
-
-abbrev pub invariant-loop-tree : goal.invariant-loop-tree
-invariant-loop-tree l = map heap_of l.heaps.items ≡ map (disjunct (names_of l.universals)) (map named.heap_of (take l.tree-index l.trees))

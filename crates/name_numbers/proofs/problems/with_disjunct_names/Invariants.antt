@@ -1,9 +1,0 @@
-use Rattle.std.proofs.Common.{◌≡◌, ◌++◌, map, take}
-use Rattle.std.specs.List.{flat_map}
-use Rattle.problem_syntax.specs.Trees as named
-use Rattle.name_numbers.specs.Occurrences.{plain_names}
-use Rattle.name_numbers.specs.Views.{name_of}
-use Rattle.name_numbers.proofs.problems.with_disjunct_names.Given as goal
-
-abbrev pub invariant-loop-tree : goal.invariant-loop-tree
-invariant-loop-tree l = map name_of l.names.items ≡ map name_of l.fn.names.items ++ flat_map plain_names (map named.heap_of (take l.tree-index l.trees))

@@ -1,3 +1,0 @@
-mod Marking
-mod Keeping
-mod Statements

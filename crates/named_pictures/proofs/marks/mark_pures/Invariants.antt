@@ -1,6 +1,0 @@
-use Rattle.std.proofs.Common.{◌≡◌, drop}
-use Rattle.named_pictures.specs.Marks.{marked_pures}
-use Rattle.named_pictures.proofs.marks.mark_pures.Given as goal
-
-abbrev pub invariant-loop-atom : goal.invariant-loop-atom
-invariant-loop-atom l = marked_pures l.flags (drop l.atom-index l.atoms) ≡ marked_pures l.fn.flags l.atoms

@@ -1,8 +1,0 @@
-//! Whether a node may stand in a proof file. For nodes that come from a search of which nothing is known.
-#![tactic(auto)]
-
-mod nodes;
-mod rules;
-mod terms;
-
-pub use nodes::are_nodes_within;

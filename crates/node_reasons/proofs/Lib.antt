@@ -1,4 +1,0 @@
-mod SmallEntries
-pub mod FewPremises
-mod ExampleFaults
-mod ExampleFiles

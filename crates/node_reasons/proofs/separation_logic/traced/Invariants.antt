@@ -1,6 +1,0 @@
-use Rattle.std.proofs.Common.{◌≡◌, ◌++◌, map}
-use Rattle.node_reasons.specs.SeparationLogic.{traced}
-use Rattle.node_reasons.proofs.separation_logic.traced.Given as goal
-
-abbrev pub invariant-loop-premise : goal.invariant-loop-premise
-invariant-loop-premise l = l.subgoals.items ++ map traced l.premise-iterator.rest.items ≡ map traced l.fn.premises.items

@@ -1,5 +1,0 @@
-pub mod Answers
-pub mod Graphs
-pub mod SeparationLogic
-pub mod LogicLaws
-pub mod Instance

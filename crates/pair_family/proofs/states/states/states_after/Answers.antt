@@ -1,0 +1,27 @@
+use Rattle.std.proofs.Common.{◌≡◌, Err, ap, subst}
+use Rattle.pair_family.specs.declared.states.states.StatesFault.TheVariants.{TooManyStates}
+use Rattle.pair_family.specs.Labels.{GivesFrom, Grows}
+use Rattle.pair_family.proofs.Sized.{distinct_none, many_new, room_few}
+use Rattle.pair_family.proofs.states.states.states_after.Goals as goal
+
+pub grow_by_all-requires : goal.grow_by_all-requires
+grow_by_all-requires c = distinct_none c.new-set.result.keys c.new-set.ensures.empty
+
+pub returns-in-Ok-clause-given : goal.returns-in-Ok-clause-given
+returns-in-Ok-clause-given c =
+    subst (λ old.
+    Grows old c.grow_by_all.new.set.keys
+    (GivesFrom c.args.step.now.numbers.now c.args.states.now c.args.step.now.places.now c.args.step.now.kept.now
+    c.args.pairs.now)) c.new-set.ensures.empty c.in-Ok.ensures.grown
+
+pub returns-in-Ok-clause-few : goal.returns-in-Ok-clause-few
+returns-in-Ok-clause-few c =
+    room_few c.args.most c.in-Ok.field-0 c.new-set.result.keys c.grow_by_all.new.set.keys c.new-set.ensures.empty
+    c.in-Ok.ensures.room
+
+pub returns-in-Err-clause-many : goal.returns-in-Err-clause-many
+returns-in-Err-clause-many c e =
+    let f : c.in-Err.fault ≡ TooManyStates = cc in
+    many_new c.args.most c.new-set.result.keys
+    (GivesFrom c.args.step.now.numbers.now c.args.states.now c.args.step.now.places.now c.args.step.now.kept.now
+    c.args.pairs.now) c.new-set.ensures.empty (c.in-Err.ensures.many (ap Err f))

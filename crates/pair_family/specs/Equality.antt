@@ -1,0 +1,64 @@
+-- What `==` computes of two base pairs.
+use Rattle.std.specs.Prelude.{◌≡◌, ℕ, Bool, true, ◌++◌, ◌&&◌, nat_eq, refl}
+use Rattle.std.proofs.Common.{subst, ap}
+use Rattle.std.proofs.lemmas.Bool.{and_parts, and_from, eqb-true, eq-eqb}
+use Rattle.std.specs.Bool.{Decides}
+use Rattle.std.specs.Hash as fed
+use Rattle.std.specs.Hash.{HashWrites}
+use Rattle.std.specs.Cmp.{IsPartialEquivalence, IsEquivalence, decided, partial_equiv_from_equiv}
+use Rattle.std.specs.Cmp.Lexicographic.{pointwise}
+use Rattle.cyc_basics.proofs.Tests.{pointwise_is, pointwise_self}
+use Rattle.pair_family.specs.BasePairs.{BasePair}
+
+abbrev pub two_eq : ℕ × ℕ → ℕ × ℕ → Bool
+two_eq x y = nat_eq x.0 y.0 && nat_eq x.1 y.1
+
+abbrev pub base_pair_eq : BasePair → BasePair → Bool
+base_pair_eq a b = pointwise two_eq a.same b.same &&
+    (pointwise two_eq a.differ b.differ && pointwise nat_eq a.cells b.cells)
+
+two_same : (x y : ℕ × ℕ) → two_eq x y ≡ true → x ≡ y
+two_same x y h =
+    let p = and_parts (nat_eq x.0 y.0) (nat_eq x.1 y.1) h in
+    let a : x.0 ≡ y.0 = eqb-true x.0 y.0 p.0 in
+    let b : x.1 ≡ y.1 = eqb-true x.1 y.1 p.1 in λ i. (a i, b i)
+
+two_refl : (x : ℕ × ℕ) → two_eq x x ≡ true
+two_refl x = and_from (nat_eq x.0 x.0) (nat_eq x.1 x.1) (eq-eqb x.0 x.0 refl) (eq-eqb x.1 x.1 refl)
+
+pub pair_same : (a b : BasePair) → base_pair_eq a b ≡ true → a ≡ b
+pair_same a b h =
+    let p = and_parts (pointwise two_eq a.same b.same)
+    (pointwise two_eq a.differ b.differ && pointwise nat_eq a.cells b.cells) h in
+    let q = and_parts (pointwise two_eq a.differ b.differ) (pointwise nat_eq a.cells b.cells) p.1 in
+    let s = pointwise_is two_eq two_same a.same b.same p.0 in
+    let d = pointwise_is two_eq two_same a.differ b.differ q.0 in
+    let c = pointwise_is nat_eq (λ x y. eqb-true x y) a.cells b.cells q.1 in
+    λ i. record { same = s i; differ = d i; cells = c i }
+
+pub pair_refl : (a : BasePair) → base_pair_eq a a ≡ true
+pair_refl a =
+    and_from (pointwise two_eq a.same a.same) (pointwise two_eq a.differ a.differ && pointwise nat_eq a.cells a.cells)
+    (pointwise_self two_eq two_refl a.same) (and_from (pointwise two_eq a.differ a.differ)
+    (pointwise nat_eq a.cells a.cells) (pointwise_self two_eq two_refl a.differ)
+    (pointwise_self nat_eq (λ x. eq-eqb x x refl) a.cells))
+
+pub base_pair_decides : (a b : BasePair) → Decides (base_pair_eq a b) (a ≡ b)
+base_pair_decides a b = (pair_same a b, λ e. subst (λ z. base_pair_eq a z ≡ true) e (pair_refl a))
+
+pub base_pair_equiv : IsEquivalence base_pair_eq
+base_pair_equiv = decided base_pair_eq base_pair_decides
+
+pub base_pair_per : IsPartialEquivalence base_pair_eq
+base_pair_per = partial_equiv_from_equiv base_pair_equiv
+
+-- ---- what `hash` feeds
+
+abbrev pub two_writes : ℕ × ℕ → HashWrites
+two_writes q = fed.usize q.0 ++ fed.usize q.1
+
+abbrev pub base_pair_writes : BasePair → HashWrites
+base_pair_writes b = fed.slice two_writes b.same ++ (fed.slice two_writes b.differ ++ fed.slice fed.usize b.cells)
+
+pub base_pair_alike : (a b : BasePair) → base_pair_eq a b ≡ true → base_pair_writes a ≡ base_pair_writes b
+base_pair_alike a b h = ap base_pair_writes (pair_same a b h)

@@ -1,0 +1,354 @@
+// Labels of the terms, equal for terms of one class.
+ghost use Rattle.std.specs.Prelude.{◌≡◌, ◌≢◌, ◌<◌, ◌++◌, ◌∷◌, [], ◌↔◌, IsTrue, if◌then◌else◌, length, map, filter};
+ghost use Rattle.std.specs.Prelude.{slice_index, nat_eq, IfOk};
+ghost use Rattle.std.specs.List.{list_any};
+ghost use Rattle.heap_formula.specs.Words.{Each};
+ghost use Rattle.pair_family.specs.Combination.{upto, pairs_below, each_two};
+ghost use Rattle.pair_family.specs.Labels.{row, has_same, neighbours, has_difference, is_first_label, is_cell_label};
+ghost use Rattle.pair_family.specs.Labels.{relabelled, joined_labels, labels_at, label_pairs, cell_pairs, pairs_at};
+ghost use Rattle.pair_family.specs.Labels.{numbers_at, different_pairs};
+
+use std::alloc::{AllocError, Global};
+
+/// The new label in place of the old one.
+fn relabel_one(label: u64, old: u64, new: u64) -> u64
+    ensures { result ≡ relabelled old new label }
+{
+    if label == old { new } else { label }
+}
+
+/// Labels where the class of one label is that of another.
+pub fn relabel(alloc: Global, labels: &[u64], old: u64, new: u64) -> Result<Vec<u64>, AllocError>
+    ensures { IfOk result (λ v. v.items ≡ map (relabelled old new) labels.now) }
+{
+    let mut out = Vec::new(alloc);
+    for label in labels {
+        out.push(relabel_one(*label, old, new))?;
+    }
+    Ok(out)
+}
+
+/// The labels that some difference joins with a label.
+pub fn neighbours_of(
+    alloc: Global,
+    differences: &[(u64, u64)],
+    label: u64,
+) -> Result<Vec<u64>, AllocError>
+    ensures { IfOk result (λ v. v.items ≡ neighbours label differences.now) }
+{
+    let mut near = Vec::new(alloc);
+    for difference in differences {
+        let (left, right) = *difference;
+        push_label_if(&mut near, left == label, right)?;
+        push_label_if(&mut near, right == label, left)?;
+    }
+    Ok(near)
+}
+
+fn push_label_if(labels: &mut Vec<u64>, holds: bool, label: u64) -> Result<(), AllocError>
+    ensures { IfOk result (λ _. labels.new.items ≡ labels.old.items ++ (if holds then label ∷ [] else [])) }
+{
+    if holds {
+        labels.push(label)?;
+    }
+    Ok(())
+}
+
+fn push_if(
+    pairs: &mut Vec<(usize, usize)>,
+    holds: bool,
+    pair: (usize, usize),
+) -> Result<(), AllocError>
+    ensures { IfOk result (λ _. pairs.new.items ≡ pairs.old.items ++ (if holds then pair ∷ [] else [])) }
+{
+    if holds {
+        pairs.push(pair)?;
+    }
+    Ok(())
+}
+
+/// The pairs (i, j) of one class, for this j.
+#[tactic(auto, using(crate::proofs::Rows::same_row))]
+fn push_same(pairs: &mut Vec<(usize, usize)>, labels: &[u64], j: usize) -> Result<(), AllocError>
+    requires { j < length labels.now }
+    ensures { IfOk result (λ _. pairs.new.items ≡ pairs.old.items ++ filter (has_same labels.now) (row j j)) }
+{
+    for i in 0..j {
+        push_if(pairs, labels[i] == labels[j], (i, j))?;
+    }
+    Ok(())
+}
+
+/// The pairs of one class.
+#[tactic(auto, using(crate::proofs::Rows::next_row))]
+pub fn same_pairs(alloc: Global, labels: &[u64]) -> Result<Vec<(usize, usize)>, AllocError>
+    ensures { IfOk result (λ v. v.items ≡ filter (has_same labels.now) (pairs_below (length labels.now))) }
+{
+    let mut pairs = Vec::new(alloc);
+    for j in 0..labels.len() {
+        push_same(&mut pairs, labels, j)?;
+    }
+    Ok(pairs)
+}
+
+/// The pairs (i, j) whose labels some difference joins, for this j.
+#[tactic(auto, using(crate::proofs::Rows::difference_row))]
+fn push_differing(
+    alloc: Global,
+    pairs: &mut Vec<(usize, usize)>,
+    labels: &[u64],
+    differences: &[(u64, u64)],
+    j: usize,
+) -> Result<(), AllocError>
+    requires { j < length labels.now }
+    ensures { IfOk result (λ _. pairs.new.items
+        ≡ pairs.old.items ++ filter (has_difference labels.now differences.now) (row j j)) }
+{
+    let near = neighbours_of(alloc, differences, labels[j])?;
+    for i in 0..j {
+        push_if(pairs, has_label(&near, labels[i]), (i, j))?;
+    }
+    Ok(())
+}
+
+/// The pairs of classes that some difference joins.
+#[tactic(auto, using(crate::proofs::Rows::next_row))]
+pub fn differing_pairs(
+    alloc: Global,
+    labels: &[u64],
+    differences: &[(u64, u64)],
+) -> Result<Vec<(usize, usize)>, AllocError>
+    ensures { IfOk result (λ v. v.items ≡ different_pairs labels.now differences.now) }
+{
+    let mut pairs = Vec::new(alloc);
+    for j in 0..labels.len() {
+        push_differing(alloc, &mut pairs, labels, differences, j)?;
+    }
+    Ok(pairs)
+}
+
+/// Whether a label stands in the list.
+fn has_label(labels: &[u64], label: u64) -> bool
+    ensures { result ≡ list_any (λ c. nat_eq c label) labels.now }
+{
+    for other in labels {
+        if *other == label {
+            return true;
+        }
+    }
+    false
+}
+
+/// Whether no lesser number has the label of this one.
+#[tactic(auto, using(crate::proofs::Rows::any_next))]
+fn is_first(labels: &[u64], i: usize) -> bool
+    requires { i < length labels.now }
+    ensures { result ≡ is_first_label labels.now i }
+{
+    let mut found = false;
+    for j in 0..i {
+        found = found || labels[j] == labels[i];
+    }
+    !found
+}
+
+fn is_cell(labels: &[u64], cells: &[u64], i: usize) -> bool
+    requires { i < length labels.now }
+    ensures { result ≡ is_cell_label labels.now cells.now i }
+{
+    is_first(labels, i) && has_label(cells, labels[i])
+}
+
+fn push_number_if(numbers: &mut Vec<usize>, holds: bool, number: usize) -> Result<(), AllocError>
+    ensures { IfOk result (λ _. numbers.new.items ≡ numbers.old.items ++ (if holds then number ∷ [] else [])) }
+{
+    if holds {
+        numbers.push(number)?;
+    }
+    Ok(())
+}
+
+/// The least numbers of the classes that are cells.
+#[tactic(auto, using(crate::proofs::Rows::cell_next))]
+pub fn cell_numbers(alloc: Global, labels: &[u64], cells: &[u64]) -> Result<Vec<usize>, AllocError>
+    ensures { IfOk result (λ v. v.items ≡ filter (is_cell_label labels.now cells.now) (upto (length labels.now))) }
+{
+    let mut numbers = Vec::new(alloc);
+    for i in 0..labels.len() {
+        push_number_if(&mut numbers, is_cell(labels, cells, i), i)?;
+    }
+    Ok(numbers)
+}
+
+/// The label of a number; 0 past the end.
+fn label_at(labels: &[u64], i: usize) -> u64
+    ensures { result ≡ slice_index labels.now i }
+{
+    match labels.get(i) {
+        None => 0,
+        Some(label) => *label,
+    }
+}
+
+/// Labels where the class of one label is that of another; nothing is to be done where they are one.
+#[tactic(auto, using(crate::proofs::Rows::joined_alone))]
+fn join(alloc: Global, labels: Vec<u64>, old: u64, new: u64) -> Result<Vec<u64>, AllocError>
+    ensures { IfOk result (λ v. v.items ≡ map (relabelled old new) labels.items) }
+{
+    if old == new {
+        return Ok(labels);
+    }
+    relabel(alloc, &labels, old, new)
+}
+
+/// The labels after equations between numbers.
+pub fn join_all(
+    alloc: Global,
+    start: &[u64],
+    equations: &[(usize, usize)],
+) -> Result<Vec<u64>, AllocError>
+    ensures { IfOk result (λ v. v.items ≡ joined_labels start.now equations.now) }
+{
+    let mut labels = relabel(alloc, start, 0, 0)?;
+    for equation in equations {
+        let (left, right) = *equation;
+        let old = label_at(&labels, right);
+        let new = label_at(&labels, left);
+        labels = join(alloc, labels, old, new)?;
+    }
+    Ok(labels)
+}
+
+/// Whether no difference joins a label with itself.
+pub fn are_apart(differences: &[(u64, u64)]) -> bool
+    ensures { IsTrue result ↔ Each (λ q. q.0 ≢ q.1) differences.now }
+{
+    for difference in differences {
+        let (left, right) = *difference;
+        if left == right {
+            return false;
+        }
+    }
+    true
+}
+
+/// The labels of some numbers.
+pub fn labels_of(alloc: Global, labels: &[u64], numbers: &[usize]) -> Result<Vec<u64>, AllocError>
+    ensures { IfOk result (λ v. v.items ≡ labels_at labels.now numbers.now) }
+{
+    let mut out = Vec::new(alloc);
+    for number in numbers {
+        out.push(label_at(labels, *number))?;
+    }
+    Ok(out)
+}
+
+/// The labels of some pairs of numbers.
+fn push_label_pairs(
+    out: &mut Vec<(u64, u64)>,
+    labels: &[u64],
+    pairs: &[(usize, usize)],
+) -> Result<(), AllocError>
+    ensures { IfOk result (λ _. out.new.items ≡ out.old.items ++ label_pairs labels.now pairs.now) }
+{
+    for pair in pairs {
+        let (left, right) = *pair;
+        out.push((label_at(labels, left), label_at(labels, right)))?;
+    }
+    Ok(())
+}
+
+/// Each cell with nil.
+fn push_against(out: &mut Vec<(u64, u64)>, cells: &[u64], nil: u64) -> Result<(), AllocError>
+    ensures { IfOk result (λ _. out.new.items ≡ out.old.items ++ map (λ c. (c, nil)) cells.now) }
+{
+    for cell in cells {
+        out.push((*cell, nil))?;
+    }
+    Ok(())
+}
+
+/// One cell with each of some others.
+fn push_with(out: &mut Vec<(u64, u64)>, cell: u64, others: &[u64]) -> Result<(), AllocError>
+    ensures { IfOk result (λ _. out.new.items ≡ out.old.items ++ map (λ u. (cell, u)) others.now) }
+{
+    for other in others {
+        out.push((cell, *other))?;
+    }
+    Ok(())
+}
+
+/// Each two cells.
+fn push_each_two(out: &mut Vec<(u64, u64)>, cells: &[u64]) -> Result<(), AllocError>
+    ensures { IfOk result (λ _. out.new.items ≡ out.old.items ++ each_two cells.now) }
+{
+    for i in 0..cells.len() {
+        push_with(out, cells[i], &cells[i + 1..])?;
+    }
+    Ok(())
+}
+
+/// All differences of labels: the stated ones, and those of the cells.
+pub fn differences_of(
+    alloc: Global,
+    labels: &[u64],
+    differences: &[(usize, usize)],
+    cells: &[u64],
+) -> Result<Vec<(u64, u64)>, AllocError>
+    ensures { IfOk result (λ v. v.items
+        ≡ label_pairs labels.now differences.now ++ cell_pairs (slice_index labels.now 0) cells.now) }
+{
+    let mut out = Vec::new(alloc);
+    push_label_pairs(&mut out, labels, differences)?;
+    push_against(&mut out, cells, label_at(labels, 0))?;
+    push_each_two(&mut out, cells)?;
+    Ok(out)
+}
+
+fn place_at(places: &[usize], i: usize) -> usize
+    ensures { result ≡ slice_index places.now i }
+{
+    match places.get(i) {
+        None => 0,
+        Some(place) => *place,
+    }
+}
+
+/// Some pairs, and others at some places.
+pub fn pairs_then(
+    alloc: Global,
+    own: &[(usize, usize)],
+    places: &[usize],
+    others: &[(usize, usize)],
+) -> Result<Vec<(usize, usize)>, AllocError>
+    ensures { IfOk result (λ v. v.items ≡ own.now ++ pairs_at places.now others.now) }
+{
+    let mut out = Vec::new(alloc);
+    for pair in own {
+        let (left, right) = *pair;
+        out.push((left, right))?;
+    }
+    for pair in others {
+        let (left, right) = *pair;
+        out.push((place_at(places, left), place_at(places, right)))?;
+    }
+    Ok(out)
+}
+
+pub fn numbers_then(
+    alloc: Global,
+    own: &[usize],
+    places: &[usize],
+    others: &[usize],
+) -> Result<Vec<usize>, AllocError>
+    ensures { IfOk result (λ v. v.items ≡ own.now ++ numbers_at places.now others.now) }
+{
+    let mut out = Vec::new(alloc);
+    for number in own {
+        out.push(*number)?;
+    }
+    for number in others {
+        out.push(place_at(places, *number))?;
+    }
+    Ok(out)
+}

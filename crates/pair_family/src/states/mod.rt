@@ -1,0 +1,10 @@
+//! What is known of the terms of a symbolic heap, its base pairs taken in one atom at a time.
+
+mod combining;
+mod known;
+mod labels;
+mod states;
+
+pub use combining::combine;
+pub use known::Known;
+pub use states::{AtomStep, StatesFault, add, first_states, states_after};

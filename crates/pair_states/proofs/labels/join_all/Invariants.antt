@@ -1,6 +1,0 @@
-use Rattle.std.proofs.Common.{◌≡◌, drop}
-use Rattle.pair_states.specs.Labels.{joined_labels}
-use Rattle.pair_states.proofs.labels.join_all.Given as goal
-
-abbrev pub invariant-loop-equation : goal.invariant-loop-equation
-invariant-loop-equation l = joined_labels l.labels.items (drop l.equation-index l.equations) ≡ joined_labels l.start l.equations

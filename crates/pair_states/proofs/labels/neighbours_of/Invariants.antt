@@ -1,6 +1,0 @@
-use Rattle.std.proofs.Common.{◌≡◌, ◌++◌, drop}
-use Rattle.pair_states.specs.Labels.{neighbours}
-use Rattle.pair_states.proofs.labels.neighbours_of.Given as goal
-
-abbrev pub invariant-loop-difference : goal.invariant-loop-difference
-invariant-loop-difference l = l.near.items ++ neighbours l.label (drop l.difference-index l.differences) ≡ neighbours l.label l.differences

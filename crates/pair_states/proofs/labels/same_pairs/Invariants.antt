@@ -1,7 +1,0 @@
-use Rattle.std.proofs.Common.{◌≡◌, filter}
-use Rattle.pair_family.specs.Combination.{pairs_below}
-use Rattle.pair_states.specs.Labels.{has_same}
-use Rattle.pair_states.proofs.labels.same_pairs.Given as goal
-
-abbrev pub invariant-loop-j : goal.invariant-loop-j
-invariant-loop-j l = l.pairs.items ≡ filter (has_same l.labels) (pairs_below l.j)

@@ -1,5 +1,0 @@
-use Rattle.pair_states.proofs.Interned.{added_is}
-use Rattle.pair_states.proofs.states.add.Goals as goal
-
-pub returns : goal.returns
-returns c = added_is c.args.set.now.keys c.insert_full.new.self.keys c.args.known c.in_ok-is_new.is_new c.in_ok-is_new.ensures.added c.in_ok-is_new.ensures.keys

@@ -1,8 +1,0 @@
-use Rattle.std.proofs.Common.{◌≡◌, take, map}
-use Rattle.pred_syntax.specs.Trees.{definition_of}
-use Rattle.heap_reader.specs.Trees.{heading_of}
-use Rattle.pred_reader.specs.Flaws.{headings}
-use Rattle.pred_reader.proofs.head_list.heads.Given as goal
-
-abbrev pub invariant-loop-def : goal.invariant-loop-def
-invariant-loop-def l = map heading_of l.heads.items ≡ headings (map definition_of (take l.def-index l.defs))

@@ -1,7 +1,0 @@
-use Rattle.std.proofs.Common.{◌≡◌, take, map}
-use Rattle.pred_syntax.specs.Trees.{spatial_of}
-use Rattle.pred_reader.specs.Written.{spatial_tree}
-use Rattle.pred_reader.proofs.trees.spatial_atoms.Given as goal
-
-abbrev pub invariant-loop-value : goal.invariant-loop-value
-invariant-loop-value l = map spatial_of l.trees.items ≡ map (spatial_tree l.defs) (take l.value-index l.values)

@@ -1,2 +1,0 @@
-mod Inserting
-mod Numbered

@@ -1,3 +1,0 @@
-pub mod Limits
-pub mod Places
-pub mod Runs

@@ -1,7 +1,0 @@
--- What stands at an address of a heap, as a test of it sees it.
-use Rattle.std.specs.Prelude.{ℕ, Bool, true, List, Option, Some, None}
-use Rattle.problem_runs.specs.Limits.{is_short_cell}
-
-abbrev pub is_short_place : Option (List ℕ) → ℕ → Bool
-is_short_place None a = true
-is_short_place (Some vs) a = is_short_cell a vs

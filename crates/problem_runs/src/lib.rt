@@ -1,7 +1,0 @@
-//! Run files for problems: a problem's definitions, program and claim with a run.
-#![tactic(auto)]
-
-mod limits;
-mod runs;
-
-pub use runs::run_for;

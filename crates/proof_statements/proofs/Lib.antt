@@ -1,4 +1,0 @@
-pub mod Statements
-pub mod Listed
-pub mod LeftLaws
-pub mod StatementFronts

@@ -1,5 +1,0 @@
-use Rattle.proof_statements.proofs.LeftLaws.{statement-first}
-use Rattle.proof_statements.proofs.statements_come_off_the_front.Goals as goal
-
-pub returns : goal.returns
-returns c = statement-first

@@ -1,4 +1,0 @@
-mod Fronts
-mod ValuesAgain
-pub mod Readings
-mod Wider

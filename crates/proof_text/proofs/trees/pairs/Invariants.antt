@@ -1,6 +1,0 @@
-use Rattle.std.proofs.Common.{◌≡◌, take, map}
-use Rattle.proof_file.specs.Written.{pair_tree}
-use Rattle.proof_text.proofs.trees.pairs.Given as goal
-
-abbrev pub invariant-loop-variable : goal.invariant-loop-variable
-invariant-loop-variable l = l.trees.items ≡ map pair_tree (take l.variable-index l.values)

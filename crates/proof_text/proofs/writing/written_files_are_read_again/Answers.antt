@@ -1,5 +1,0 @@
-use Rattle.proof_text.proofs.Readings.{text_read_again}
-use Rattle.proof_text.proofs.writing.written_files_are_read_again.Goals as goal
-
-pub returns : goal.returns
-returns c = text_read_again

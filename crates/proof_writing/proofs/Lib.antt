@@ -1,2 +1,0 @@
-mod ReasonParts
-mod WrittenFiles

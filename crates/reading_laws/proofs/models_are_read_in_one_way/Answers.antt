@@ -1,5 +1,0 @@
-use Rattle.reading_laws.proofs.Readings.{one_model_reading}
-use Rattle.reading_laws.proofs.models_are_read_in_one_way.Goals as goal
-
-pub returns : goal.returns
-returns c = one_model_reading

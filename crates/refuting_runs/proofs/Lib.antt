@@ -1,4 +1,0 @@
-pub mod Halting
-pub mod RunEnds
-pub mod SameStates
-pub mod Moves

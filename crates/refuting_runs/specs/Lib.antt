@@ -1,4 +1,0 @@
-pub mod Picks
-pub mod Runs
-pub mod Refuting
-pub mod Moves

@@ -1,0 +1,221 @@
+-- Numbers, cells, picks and outcomes that pass the tests have a text, and cells and picks have no flaw.
+use Rattle.std.proofs.Common.{◌≡◌, ℕ, suc, ◌+◌, ◌<◌, ◌≤◌, ◌^◌, Bool, true, false, List, [], ◌∷◌, length, map, get_or}
+use Rattle.std.proofs.Common.{Option, Some, None, refl, sym, ap, subst, ◌∙◌, arith}
+use Rattle.std.specs.Prelude.{◌&&◌, nat_lt, nat_le}
+use Rattle.std.specs.List.{list_all}
+use Rattle.std.specs.FinMap.{entries, len, len-entries}
+use Rattle.std.proofs.lemmas.Bool.{and_left, ltb-true, leb-true, le-leb, lt-leb, ne_eqb}
+use Rattle.heap_formula.specs.Words.{Each}
+use Rattle.heap_formula.specs.Cells.{Cells, cell_at, IsHeap}
+use Rattle.heap_formula.proofs.AllMembers.{each_imply, each_both}
+use Rattle.general_models.specs.declared.runs.picks.Pick.{Pick}
+use Rattle.general_models.specs.declared.runs.picks.Pick.TheVariants.{Cell as CellPicked, Jumps}
+use Rattle.cyc_lex.specs.declared.fault.What.TheVariants.{Arguments, Stack}
+use Rattle.cyc_lex.proofs.BoolParts.{and-parts}
+use Rattle.cyc_grammar.specs.Syntax.{Class, one}
+use Rattle.cyc_grammar.specs.Classes.{number}
+use Rattle.heap_syntax.specs.Words.{comma, semicolon, closing}
+use Rattle.heap_reader.specs.Flaws.{over_if, listed_flaw}
+use Rattle.formula_reader.proofs.Lists.{listed_fits, none_later}
+use Rattle.proof_file.proofs.Universal.{each_passes}
+use Rattle.model_file.specs.Grammar.{numbers, values, cell, some_cell, cells1, cells, to_cell}
+use Rattle.model_file.specs.Flaws.{stack_flaw, cells_flaw}
+use Rattle.model_file.specs.Written.{cells_tree}
+use Rattle.model_file.proofs.Parts.{IsFine}
+use Rattle.model_file.proofs.SortedCells.{cell_found, cells_right}
+use Rattle.run_file.specs.declared.tree.Outcome.{Outcome}
+use Rattle.run_file.specs.declared.tree.Outcome.TheVariants.{Faults, Repeats}
+use Rattle.run_file.specs.Grammar.{pick, some_pick, picks1, picks, then_step, faulting, repeating, outcome}
+use Rattle.run_file.specs.Spans.{pick_span}
+use Rattle.run_file.specs.Flaws.{pick_flaw, picks_flaw}
+use Rattle.run_file.specs.Limits.{is_short_number, are_short_numbers, are_fields, is_short_cell, is_short_entry}
+use Rattle.run_file.specs.Limits.{is_short_pick, is_short_outcome, is_short_stack, is_short_heap}
+use Rattle.run_file.specs.Places.{is_short_place}
+
+-- ---- numbers
+
+map_same : {X : Type 0} (xs : List X) → map (λ (x : X). x) xs ≡ xs
+map_same [] = refl
+map_same {X = X} (x ∷ xs) = ap (λ (ys : List X). x ∷ ys) (map_same xs)
+
+short_number : (n : ℕ) → is_short_number n ≡ true → n < 10 ^ 9
+short_number n e = ltb-true n (10 ^ 9) e
+
+numbers_fit : (behind : Class (Unit {0})) (ns : List ℕ) → 0 < length ns → are_short_numbers ns ≡ true
+    → (numbers behind).fits ns
+unfolding numbers
+numbers_fit behind ns some e =
+    subst (numbers behind).fits (map_same ns) (listed_fits (one number) (λ (n : ℕ). n) 0 comma behind ns some
+    (each_passes is_short_number (λ (n : ℕ). n < 10 ^ 9) short_number ns e))
+
+values_fit : (ns : List ℕ) → are_short_numbers ns ≡ true → values.fits ns
+unfolding values
+values_fit [] e = (tt, tt)
+values_fit (n ∷ ns) e = (tt, numbers_fit semicolon (n ∷ ns) (omega arith) e)
+
+-- ---- the stack
+
+module _ (s : List ℕ) (short : is_short_stack s ≡ true) where
+  stack_parts : (nat_le (length s) 65535 ≡ true) × (are_short_numbers s ≡ true)
+  stack_parts = and-parts (nat_le (length s) 65535) (are_short_numbers s) short
+
+  pub stack_fits : values.fits s
+  stack_fits = values_fit s stack_parts.1
+
+  pub stack_right : (k : ℕ) → stack_flaw k s ≡ None
+  stack_right k =
+      let few = leb-true (length s) 65535 stack_parts.0 in
+      ap (λ (b : Bool). over_if b Stack (k + 131070)) (lt-leb 65536 (length s) (omega arith))
+
+-- ---- cells
+
+-- the parts of the test of a cell
+record IsShort (a : ℕ) (vs : List ℕ) : Type 0 where
+  address : a < 10 ^ 9
+  some : 0 < length vs
+  few : length vs ≤ 8
+  fields : are_short_numbers vs ≡ true
+
+short_parts : (a : ℕ) (vs : List ℕ) → is_short_cell a vs ≡ true → IsShort a vs
+short_parts a vs e =
+    let whole = and-parts (is_short_number a) (are_fields vs) e in
+    let counted = nat_lt 0 (length vs) && nat_le (length vs) 8 in
+    let fields = and-parts counted (are_short_numbers vs) whole.1 in
+    let counts = and-parts (nat_lt 0 (length vs)) (nat_le (length vs) 8) fields.0 in
+    record {
+      address = short_number a whole.0;
+      some = ltb-true 0 (length vs) counts.0;
+      few = leb-true (length vs) 8 counts.1;
+      fields = fields.1;
+    }
+
+cell_fits : (a : ℕ) (vs : List ℕ) → is_short_cell a vs ≡ true → cell.fits (record { address = a; fields = vs })
+unfolding cell
+cell_fits a vs e = let parts = short_parts a vs e in
+    (tt, (parts.address, numbers_fit closing vs parts.some parts.fields))
+
+-- a cell of a heap stands at a positive address
+each_index : {X : Type 0} (P : X → Type 0) (d : X) (xs : List X) → ((i : ℕ) → i < length xs → P (get_or xs i d))
+    → Each P xs
+each_index P d [] f = tt
+each_index P d (x ∷ xs) f = (f 0 (omega arith), each_index P d xs (λ i l. f (suc i) (omega arith)))
+
+all_positive : (h : Cells) → IsHeap h → Each (λ (e : ℕ × List ℕ). 0 < e.0) (entries h)
+all_positive h w = each_index (λ (e : ℕ × List ℕ). 0 < e.0) (0, []) (entries h)
+    (λ i l. w.positive (get_or (entries h) i (0, [])).0 (get_or (entries h) i (0, [])).1 (cell_found h i (0, []) l))
+
+fine : (e : ℕ × List ℕ) → (0 < e.0) × (is_short_entry e ≡ true) → IsFine (to_cell e)
+fine e p =
+    let first = p.0 in
+    record { positive = ne_eqb e.0 0 (λ z. omega (arith, z)); few = (short_parts e.0 e.1 p.1).few }
+
+module _ (h : Cells) (w : IsHeap h) (short : is_short_heap h ≡ true) where
+  heap_parts : (nat_le (length (entries h)) 16 ≡ true) × (list_all is_short_entry (entries h) ≡ true)
+  heap_parts = and-parts (nat_le (length (entries h)) 16) (list_all is_short_entry (entries h)) short
+
+  each_entry_short : Each (λ (e : ℕ × List ℕ). is_short_entry e ≡ true) (entries h)
+  each_entry_short = each_passes is_short_entry (λ (e : ℕ × List ℕ). is_short_entry e ≡ true) (λ e p. p) (entries h)
+      heap_parts.1
+
+  entries_fit : (es : List (ℕ × List ℕ)) → Each (λ (e : ℕ × List ℕ). is_short_entry e ≡ true) es
+      → cells.fits (map to_cell es)
+  unfolding cells cells1
+  entries_fit [] a = (tt, tt)
+  entries_fit (e ∷ es) a = (
+    tt,
+    listed_fits cell to_cell some_cell comma semicolon (e ∷ es) (omega arith)
+        (each_imply (λ (x : ℕ × List ℕ). is_short_entry x ≡ true) (λ (x : ℕ × List ℕ). cell.fits (to_cell x))
+        (λ x p. cell_fits x.0 x.1 p) (e ∷ es) a),
+  )
+
+  pub heap_fits : cells.fits (cells_tree h)
+  heap_fits = entries_fit (entries h) each_entry_short
+
+  pub heap_right : (k : ℕ) → cells_flaw k (cells_tree h) ≡ None
+  heap_right k =
+      let positive = λ (e : ℕ × List ℕ). 0 < e.0 in
+      let passes = λ (e : ℕ × List ℕ). is_short_entry e ≡ true in
+      cells_right h k (each_imply (λ e. positive e × passes e) (λ e. IsFine (to_cell e)) fine (entries h)
+      (each_both positive passes (entries h) (all_positive h w) each_entry_short))
+      (leb-true (length (entries h)) 16 heap_parts.0)
+
+-- ---- picks
+
+pick_fits : (p : Pick) → is_short_pick p ≡ true → pick.fits p
+unfolding pick
+pick_fits (CellPicked a vs) e = (tt, cell_fits a vs e)
+pick_fits (Jumps true) e = (tt, tt)
+pick_fits (Jumps false) e = (tt, tt)
+
+pub picks_fit : (ps : List Pick) → list_all is_short_pick ps ≡ true → picks.fits ps
+unfolding picks picks1
+picks_fit [] e = (tt, tt)
+picks_fit (p ∷ ps) e = (
+  tt,
+  subst (λ (xs : List Pick). (picks1).fits xs) (map_same (p ∷ ps))
+      (listed_fits pick (λ (x : Pick). x) some_pick comma semicolon (p ∷ ps) (omega arith)
+      (each_passes is_short_pick pick.fits pick_fits (p ∷ ps) e)),
+)
+
+pick_right : (k : ℕ) (p : Pick) → is_short_pick p ≡ true → pick_flaw k p ≡ None
+pick_right k (CellPicked a vs) e =
+    let few = (short_parts a vs e).few in
+    ap (λ (b : Bool). over_if b Arguments (k + 3 + 16)) (lt-leb 9 (length vs) (omega arith))
+pick_right k (Jumps b) e = refl
+
+listed_right : (n k : ℕ) (ps : List Pick) → list_all is_short_pick ps ≡ true
+    → listed_flaw (λ n. pick_flaw) pick_span n k ps ≡ None
+listed_right n k [] e = refl
+listed_right n k (p ∷ ps) e =
+    let both = and-parts (is_short_pick p) (list_all is_short_pick ps) e in
+    none_later (pick_flaw k p) (listed_flaw (λ n. pick_flaw) pick_span (suc n) (k + pick_span p) ps)
+    (pick_right k p both.0) (listed_right (suc n) (k + pick_span p) ps both.1)
+
+pub picks_right : (k : ℕ) (ps : List Pick) → list_all is_short_pick ps ≡ true → picks_flaw k ps ≡ None
+picks_right k ps e = listed_right 0 k ps e
+
+-- ---- the outcome
+
+both_short : (m n : ℕ) → is_short_number m && is_short_number n ≡ true → (m < 10 ^ 9) × (n < 10 ^ 9)
+both_short m n e =
+    let both = and-parts (is_short_number m) (is_short_number n) e in
+    (short_number m both.0, short_number n both.1)
+
+pub outcome_fits : (o : Outcome) → is_short_outcome o ≡ true → outcome.fits o
+unfolding outcome faulting repeating then_step
+outcome_fits (Faults l n) e = (tt, both_short l n e)
+outcome_fits (Repeats m n) e = (tt, both_short m n e)
+
+-- ---- the test of each address is that of its entry
+
+abbrev none_there : ℕ × List ℕ
+none_there = (0, [])
+
+places_listed : (h : Cells) (es : List (ℕ × List ℕ))
+    → ((i : ℕ) → i < length es → cell_at h (get_or es i none_there).0 ≡ Some (get_or es i none_there).1)
+    → list_all (λ (a : ℕ). is_short_place (cell_at h a) a) (map (λ (e : ℕ × List ℕ). e.0) es)
+    ≡ list_all is_short_entry es
+places_listed h [] f = refl
+places_listed h (e ∷ es) f =
+    let first = ap (λ (o : Option (List ℕ)). is_short_place o e.0) (f 0 (omega arith)) in
+    let rest = places_listed h es (λ i l. f (suc i) (omega arith)) in
+    λ i. first i && rest i
+
+pub places_short : (h : Cells) → list_all (λ (a : ℕ). is_short_place (cell_at h a) a)
+    (map (λ (e : ℕ × List ℕ). e.0) (entries h)) ≡ list_all is_short_entry (entries h)
+places_short h = places_listed h (entries h) (λ i l. cell_found h i none_there l)
+
+-- the answers of the code
+pub heap_refused : (h : Cells) → 16 < len h → false ≡ is_short_heap h
+heap_refused h many =
+    let long = len-entries h in
+    sym (and_left (nat_le (length (entries h)) 16) (list_all is_short_entry (entries h))
+    (lt-leb (length (entries h)) 16 (omega (arith, long))))
+
+pub heap_tested : (h : Cells) (b : Bool) → len h ≤ 16
+    → b ≡ list_all (λ (a : ℕ). is_short_place (cell_at h a) a) (map (λ (e : ℕ × List ℕ). e.0) (entries h))
+    → b ≡ is_short_heap h
+heap_tested h b few e =
+    let long = len-entries h in
+    let counted = le-leb (length (entries h)) 16 (omega (arith, long)) in
+    e ∙ places_short h ∙ ap (λ (c : Bool). c && list_all is_short_entry (entries h)) (sym counted)

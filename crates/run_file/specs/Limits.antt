@@ -1,0 +1,45 @@
+-- What of a run a run file has room for.
+use Rattle.std.specs.Prelude.{ℕ, ◌^◌, ◌&&◌, Bool, true, nat_lt, nat_le, List, length}
+use Rattle.std.specs.List.{list_all}
+use Rattle.std.specs.FinMap.{entries}
+use Rattle.cyc_basics.specs.declared.limits.TheConstants.{MOST_ARGUMENTS, MOST_CELLS, MOST_VALUES}
+use Rattle.heap_formula.specs.Cells.{Cells}
+use Rattle.general_models.specs.declared.runs.picks.Pick.{Pick}
+use Rattle.general_models.specs.declared.runs.picks.Pick.TheVariants.{Cell, Jumps}
+use Rattle.run_file.specs.declared.tree.Outcome.{Outcome}
+use Rattle.run_file.specs.declared.tree.Outcome.TheVariants.{Faults, Repeats}
+
+-- a number of at most nine digits
+abbrev pub is_short_number : ℕ → Bool
+is_short_number n = nat_lt n (10 ^ 9)
+
+abbrev pub are_short_numbers : List ℕ → Bool
+are_short_numbers ns = list_all is_short_number ns
+
+-- one to eight fields
+abbrev pub are_fields : List ℕ → Bool
+are_fields vs = nat_lt 0 (length vs) && nat_le (length vs) MOST_ARGUMENTS && are_short_numbers vs
+
+abbrev pub is_short_cell : ℕ → List ℕ → Bool
+is_short_cell a vs = is_short_number a && are_fields vs
+
+abbrev pub is_short_entry : ℕ × List ℕ → Bool
+is_short_entry e = is_short_cell e.0 e.1
+
+abbrev pub is_short_pick : Pick → Bool
+is_short_pick (Cell a vs) = is_short_cell a vs
+is_short_pick (Jumps b) = true
+
+abbrev pub is_short_outcome : Outcome → Bool
+is_short_outcome (Faults l n) = is_short_number l && is_short_number n
+is_short_outcome (Repeats m n) = is_short_number m && is_short_number n
+
+abbrev pub is_short_stack : List ℕ → Bool
+is_short_stack s = nat_le (length s) MOST_VALUES && are_short_numbers s
+
+abbrev pub is_short_heap : Cells → Bool
+is_short_heap h = nat_le (length (entries h)) MOST_CELLS && list_all is_short_entry (entries h)
+
+-- a stack, a heap, picks and an outcome that a run file may have
+abbrev pub is_short_run : List ℕ → Cells → List Pick → Outcome → Bool
+is_short_run s h ps o = is_short_stack s && is_short_heap h && list_all is_short_pick ps && is_short_outcome o

@@ -1,0 +1,108 @@
+// Whether a run file has room for a run.
+ghost use Rattle.std.specs.Prelude.{◌≡◌, ◌&&◌, IfOk};
+ghost use Rattle.std.specs.List.{list_all};
+ghost use Rattle.heap_formula.specs.Cells.{cell_at};
+ghost use Rattle.run_file.specs.Limits.{is_short_number, are_short_numbers, are_fields, is_short_cell, is_short_pick};
+ghost use Rattle.run_file.specs.Limits.{is_short_outcome, is_short_stack, is_short_heap, is_short_run};
+ghost use Rattle.run_file.specs.Places.{is_short_place};
+
+use crate::Outcome;
+use cyc_basics::limits::{MOST_ARGUMENTS, MOST_CELLS, MOST_VALUES};
+use cyc_basics::memory::OutOfMemory;
+use general_models::runs::Pick;
+use goto_lang::Cells;
+use std::alloc::Global;
+
+fn is_short_number(number: u64) -> bool
+    ensures { result ≡ is_short_number number }
+{
+    number < 1_000_000_000
+}
+
+fn are_short_numbers(numbers: &[u64]) -> bool
+    ensures { result ≡ are_short_numbers numbers.now }
+{
+    numbers.iter().all(|number| is_short_number(*number))
+}
+
+fn is_short_stack(values: &[u64]) -> bool
+    ensures { result ≡ is_short_stack values.now }
+{
+    values.len() <= MOST_VALUES && are_short_numbers(values)
+}
+
+fn is_short_cell(address: u64, fields: &[u64]) -> bool
+    ensures { result ≡ is_short_cell address fields.now }
+{
+    is_short_number(address)
+        && !fields.is_empty()
+        && fields.len() <= MOST_ARGUMENTS
+        && are_short_numbers(fields)
+}
+
+/// Whether what stands at the address is short.
+fn is_short_place(heap: &Cells, address: u64) -> bool
+    ensures { result ≡ is_short_place (cell_at heap.now address) address }
+{
+    match heap.get(address) {
+        None => true,
+        Some(fields) => is_short_cell(address, fields),
+    }
+}
+
+fn are_short_places(heap: &Cells, addresses: &[u64]) -> bool
+    ensures { result ≡ list_all (λ a. is_short_place (cell_at heap.now a) a) addresses.now }
+{
+    addresses
+        .iter()
+        .all(|address| is_short_place(heap, *address))
+}
+
+fn is_short_heap(alloc: Global, heap: &Cells) -> Result<bool, OutOfMemory>
+    ensures { IfOk result (λ b. b ≡ is_short_heap heap.now) }
+{
+    if heap.len() > MOST_CELLS {
+        return Ok(false);
+    }
+    let addresses = heap.addresses(alloc)?;
+    Ok(are_short_places(heap, &addresses))
+}
+
+fn is_short_pick(pick: &Pick) -> bool
+    ensures { result ≡ is_short_pick pick.now }
+{
+    match pick {
+        Pick::Cell(address, fields) => is_short_cell(*address, fields.as_slice()),
+        Pick::Jumps(_) => true,
+    }
+}
+
+fn are_short_picks(picks: &[Pick]) -> bool
+    ensures { result ≡ list_all is_short_pick picks.now }
+{
+    picks.iter().all(|pick| is_short_pick(pick))
+}
+
+fn is_short_outcome(outcome: Outcome) -> bool
+    ensures { result ≡ is_short_outcome outcome }
+{
+    let (first, second) = match outcome {
+        Outcome::Faults { line, step } => (line, step),
+        Outcome::Repeats { first, again } => (first, again),
+    };
+    is_short_number(u64::from(first)) && is_short_number(u64::from(second))
+}
+
+/// Whether a run file may have the stack, the heap, the picks and the outcome.
+pub fn is_short_run(
+    alloc: Global,
+    stack: &[u64],
+    heap: &Cells,
+    picks: &[Pick],
+    outcome: Outcome,
+) -> Result<bool, OutOfMemory>
+    ensures { IfOk result (λ b. b ≡ is_short_run stack.now heap.now picks.now outcome) }
+{
+    let is_short = is_short_heap(alloc, heap)?;
+    Ok(is_short_stack(stack) && is_short && are_short_picks(picks) && is_short_outcome(outcome))
+}

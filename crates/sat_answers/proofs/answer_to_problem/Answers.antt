@@ -1,8 +1,0 @@
-use Rattle.sat_answers.proofs.Within.{antecedent_fields, are_cases}
-use Rattle.sat_answers.proofs.answer_to_problem.Goals as goal
-
-pub answer_by_table-requires-clause-closed : goal.answer_by_table-requires-clause-closed
-answer_by_table-requires-clause-closed c = are_cases _ _ _ c.problem_is_within.ensures.definitions
-
-pub answer_by_table-requires-clause-fields : goal.answer_by_table-requires-clause-fields
-answer_by_table-requires-clause-fields c = antecedent_fields _ _ _ _ c.problem_is_within.ensures.goal

@@ -1,5 +1,0 @@
-use Rattle.search_calculus.proofs.ProofGraphs.{reason_given, reason_taken}
-use Rattle.search_calculus.proofs.reason_makes_node.Goals as goal
-
-pub returns : goal.returns
-returns c = record { given = reason_given; taken = reason_taken }

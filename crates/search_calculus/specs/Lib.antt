@@ -1,4 +1,0 @@
-pub mod Calculus
-pub mod Graphs
-pub mod Problems
-pub mod Search

@@ -1,3 +1,0 @@
-pub mod NoteLaws
-pub mod SameWords
-pub mod PassedOver

@@ -1,5 +1,0 @@
-use Rattle.solve_notes.proofs.NoteLaws.{comment-note}
-use Rattle.solve_notes.proofs.notes.comment.Goals as goal
-
-pub returns-clause-note : goal.returns-clause-note
-returns-clause-note c = comment-note _ _ _ _ c.in_ok-line.ensures.ok c.in_ok-push_parts.ensures.text c.in_ok-push_str.ensures.bytes c.in_ok-push_parts.ensures.fits

@@ -1,5 +1,0 @@
-use Rattle.solve_notes.proofs.NoteLaws.{name-line}
-use Rattle.solve_notes.proofs.parts.push_name.Goals as goal
-
-pub returns-clause-fits : goal.returns-clause-fits
-returns-clause-fits c = name-line c.args.name.now c.utf8.name

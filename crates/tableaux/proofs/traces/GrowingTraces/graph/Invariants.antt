@@ -1,5 +1,0 @@
-use Rattle.std.proofs.Common.{◌≡◌, ◌++◌, drop}
-use Rattle.tableaux.proofs.traces.GrowingTraces.graph.Given as goal
-
-abbrev pub invariant-loop-node : goal.invariant-loop-node
-invariant-loop-node l = l.graph ++ drop l.node-index l.node-items ≡ l.node-items

@@ -1,5 +1,0 @@
-pub mod OneWay
-pub mod Universal
-pub mod Firsts
-pub mod Exact
-mod NameTests

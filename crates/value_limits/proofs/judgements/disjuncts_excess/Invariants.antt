@@ -1,7 +1,0 @@
-use Rattle.std.proofs.Common.{◌≡◌, drop}
-use Rattle.value_limits.specs.Excess.{first_of, disjunct_at}
-use Rattle.value_limits.proofs.judgements.disjuncts_excess.Given as goal
-
-abbrev pub invariant-loop-place : goal.invariant-loop-place
-invariant-loop-place l =
-    first_of (disjunct_at l.defs.most l.defs.list) l.place (drop l.place l.heaps) ≡ first_of (disjunct_at l.defs.most l.defs.list) 0 l.heaps
