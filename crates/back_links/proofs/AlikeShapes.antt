@@ -69,8 +69,8 @@ module _ (p : Spatial → Bool) where
   taken_there true x n cs ds h = let a = count-cons p x cs in let b = count-cons p x ds in omega arith
   taken_there false x n cs ds h = h
 
-  count_minus : (xs : List Spatial) (free : ℕ → Bool) (m : ℕ) (y : Spatial) → slice_get xs m ≡ Some y → free m ≡ true
-      → count_by p (chosen free xs) ≡ cond (p y) 1 0 + count_by p (chosen (minus m free) xs)
+  pub count_minus : (xs : List Spatial) (free : ℕ → Bool) (m : ℕ) (y : Spatial) → slice_get xs m ≡ Some y
+      → free m ≡ true → count_by p (chosen free xs) ≡ cond (p y) 1 0 + count_by p (chosen (minus m free) xs)
   count_minus [] free m y at t = cc
   count_minus (x ∷ xs) free zero y at t = taken_here (free 0) x y (chosen (λ k. free (suc k)) xs) t (cc)
   count_minus (x ∷ xs) free (suc m) y at t =
@@ -114,7 +114,7 @@ same_count p (x ∷ xs) ys same =
     count-cons p x xs ∙ ap (λ n. cond (p x) 1 0 + n) (same_count p xs (without r.place ys) rest)
     ∙ sym (count_without p ys r.place x r.at)
 
-count_all : (xs : List Spatial) → count_by (λ _. true) xs ≡ length xs
+pub count_all : (xs : List Spatial) → count_by (λ _. true) xs ≡ length xs
 count_all [] = refl
 count_all (x ∷ xs) = let h = count_all xs in let a = count-cons (λ (y : Spatial). true) x xs in omega arith
 
@@ -163,8 +163,8 @@ same_atoms_shapes s atoms xs same =
     (shapes_hold atoms xs (λ z. let c = same_count (same_shape z) atoms (map (apply_spatial s) xs) same in
     let e = sent_count s z xs in omega arith))
 
-some_there : (p : SymbolicHeap → Bool) (bs : List SymbolicHeap) (k : ℕ) (b : SymbolicHeap) → slice_get bs k ≡ Some b
-    → p b ≡ true → list_any p bs ≡ true
+pub some_there : {X : Type 0} (p : X → Bool) (bs : List X) (k : ℕ) (b : X) → slice_get bs k ≡ Some b → p b ≡ true
+    → list_any p bs ≡ true
 some_there p [] k b at t = cc
 some_there p (c ∷ bs) zero b at t = let same : c ≡ b = cc in here (p c) (ap p same ∙ t)
   where

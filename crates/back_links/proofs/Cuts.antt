@@ -32,7 +32,7 @@ not_right : (o : Option RuleFault) → o ≢ None → is_none o ≡ false
 not_right None h = absurd (h refl)
 not_right (Some f) h = refl
 
-true_false : (b : Bool) → b ≡ false → b ≡ true → ⊥
+pub true_false : (b : Bool) → b ≡ false → b ≡ true → ⊥
 true_false b e f = cc
 
 module _ (bud companion : Judgement) (target p : ℕ) where
@@ -95,6 +95,12 @@ module _ (bud companion : Judgement) (target p : ℕ) where
       (subst (λ (ms : List ℕ). Fits bud companion p ms (made ++ r) ks) (sym (append-nil places))
       (fit places (made ++ r) ks right))))
 
+  -- no link has the map and begins with the pairs, since none that does fits
+  pub open_pairs_cut : (places : List ℕ) (made : Bindings) (rest : List Bindings)
+      → ((r : Bindings) (ks : List ℕ) → Fits bud companion p places (made ++ r) ks → ⊥)
+      → by_pairs bud companion target p places made rest ≡ []
+  open_pairs_cut places made rest h = pairs_none places made rest (λ r ks i n. h r ks (fit places (made ++ r) ks n))
+
   -- ---- places
 
   module _ (values : List Term) (sources : List ℕ) where
@@ -107,6 +113,12 @@ module _ (bud companion : Judgement) (target p : ℕ) where
         (selections rest) (each_selection (λ (r : List ℕ). by_pairs bud companion target p (made ++ r) []
         (value_choices values sources) ≡ []) rest (λ r i.
         pairs_none (made ++ r) [] (value_choices values sources) (h r)))
+
+    -- no link begins with the places, since none that does fits
+    pub open_cut : (made : List ℕ) (rest : List (List ℕ))
+        → ((r : List ℕ) (s : Bindings) (ks : List ℕ) → IsSelection (value_choices values sources) s
+        → Fits bud companion p (made ++ r) s ks → ⊥) → by_places bud companion target p values sources made rest ≡ []
+    open_cut made rest h = places_none made rest (λ r s ks i n. h r s ks i (fit (made ++ r) s ks n))
 
     take_cut : (made : List ℕ) (m : ℕ) (rest : List (List ℕ)) → could_take bud companion made m ≡ false
         → by_places bud companion target p values sources (made ++ m ∷ []) rest ≡ []

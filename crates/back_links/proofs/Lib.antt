@@ -4,6 +4,7 @@ pub mod Selecting
 mod AlikeShapes
 mod Possible
 mod Cuts
+mod Openings
 mod ProspectLoops
 mod Complete
 pub mod Forced

@@ -24,6 +24,7 @@ use Rattle.heap_formula.specs.Judgements.{antecedent}
 use Rattle.heap_formula.specs.Substitution.{Bindings, image, apply_term, apply_pure, apply_spatial, apply_heap}
 use Rattle.rule_table.specs.Answer.{disjuncts}
 use Rattle.rule_table.specs.Tests.{same_term, equated, follows, has_number}
+use Rattle.rule_table.specs.RuleLink.{MapsInto, DisjunctsCover}
 use Rattle.rule_table.specs.LinkTable.{first_of, fault_unless, keeps_below, pure_fault, all_equated, matches}
 use Rattle.rule_table.specs.LinkTable.{matches_some, spatial_fault, covers_some, disjunct_fault, parts_fault}
 use Rattle.rule_table.specs.LinkTable.{link_fault}
@@ -43,7 +44,7 @@ use Rattle.cyc_basics.proofs.Places.{tested_within}
 abbrev pub Agrees : Bindings → Bindings → Type 0
 Agrees s whole = (n : ℕ) (v : Term) → lookup s n ≡ Some v → image whole n ≡ v
 
-or_right : (a : Bool) {b : Bool} → b ≡ true → a || b ≡ true
+pub or_right : (a : Bool) {b : Bool} → b ≡ true → a || b ≡ true
 or_right true e = refl
 or_right false e = e
 
@@ -68,7 +69,7 @@ module _ (s whole : Bindings) (agrees : Agrees s whole) (pures : List Pure) wher
       both_true (could_equal pures (known s t) u) (could_equal_all pures s ts us)
       (equal_ok (known s t) t u (known_is t) b.0) (all_equal_ok ts us b.1)
 
-  match_ok : (x y : Spatial) → matches pures (apply_spatial whole x) y ≡ true → could_match pures s x y ≡ true
+  pub match_ok : (x y : Spatial) → matches pures (apply_spatial whole x) y ≡ true → could_match pures s x y ≡ true
   match_ok (Cell t ts) (Cell u us) e =
       let b = and_parts (equated pures (apply_term whole t) u) (all_equated pures (map (apply_term whole) ts) us) e in
       both_true (could_equal pures (known s t) u) (could_equal_all pures s ts us)
@@ -79,7 +80,7 @@ module _ (s whole : Bindings) (agrees : Agrees s whole) (pures : List Pure) wher
   match_ok (Cell t ts) (Pred q us) e = e
   match_ok (Pred p ts) (Cell u us) e = e
 
-  match_some_ok : (x : Spatial) (o : Option Spatial) → matches_some pures (apply_spatial whole x) o ≡ true
+  pub match_some_ok : (x : Spatial) (o : Option Spatial) → matches_some pures (apply_spatial whole x) o ≡ true
       → could_match_some pures s x o ≡ true
   match_some_ok x None e = e
   match_some_ok x (Some y) e = match_ok x y e
@@ -109,7 +110,7 @@ module _ (s whole : Bindings) (agrees : Agrees s whole) (pures : List Pure) wher
   both_ok f (Some v) (Some w) t u h k e = subst (λ (y : Term). follows pures (f v y) ≡ true) (k w refl)
       (subst (λ (y : Term). follows pures (f y (apply_term whole u)) ≡ true) (h v refl) e)
 
-  follow_ok : (x : Pure) → follows pures (apply_pure whole x) ≡ true → could_follow pures (known_pure s x) ≡ true
+  pub follow_ok : (x : Pure) → follows pures (apply_pure whole x) ≡ true → could_follow pures (known_pure s x) ≡ true
   follow_ok (Eq t u) e = both_ok Eq (known s t) (known s u) t u (known_is t) (known_is u) e
   follow_ok (Neq t u) e = both_ok Neq (known s t) (known s u) t u (known_is t) (known_is u) e
 
@@ -168,6 +169,9 @@ pub record Fits (bud companion : Judgement) (p : ℕ) (ms : List ℕ) (s : Bindi
   pub disjunct : disjunct_fault (disjuncts bud) 0 ks (map (apply_heap s) (disjuncts companion)) ≡ None
   pub keeps : (v : ℕ) → v < kept_variables companion p → image s v ≡ Univ v
   pub alike : are_alike bud companion ≡ true
+  pub taken : MapsInto (antecedent bud).pure (antecedent bud).spatial (λ _. true) ms
+      (map (apply_spatial s) (antecedent companion).spatial)
+  pub covers : DisjunctsCover (disjuncts bud) ks (map (apply_heap s) (disjuncts companion))
 
 parts_fit : (a : SymbolicHeap) (bs : List SymbolicHeap) (b : SymbolicHeap) (cs : List SymbolicHeap) (all : Bool)
     (link : Link) → parts_fault a bs b cs all link ≡ None → (pure_fault a.pure 0 (map (apply_pure link.subst) b.pure)
@@ -192,15 +196,25 @@ fits (Entail a bs) (Entail b cs) p link e =
     let alike = both_true (same_shapes a.spatial b.spatial) (list_all (some_has_shapes bs) cs)
     (mapped_whole a.pure a.spatial link.map link.subst b.spatial (leb-true _ _ h.2) h.1)
     (covered_shapes link.subst bs link.disjuncts cs h.3) in
-    record { all = all; pure = f.0; spatial = f.1; disjunct = f.2; keeps = λ v lt. absurd (omega arith); alike = alike }
+    record {
+      all = all;
+      pure = f.0;
+      spatial = f.1;
+      disjunct = f.2;
+      keeps = λ v lt. absurd (omega arith);
+      alike = alike;
+      taken = h.1;
+      covers = h.3;
+    }
 fits (Runs i a) (Runs k b) p link e =
     let f = none_of_two (fault_unless (nat_eq i k) LineDiffers)
     (first_of (fault_unless (keeps_below link.subst p) LinkProgramVariable) (parts_fault a [] b [] true link)) e in
     let g = none_of_two (fault_unless (keeps_below link.subst p) LinkProgramVariable) (parts_fault a [] b [] true link)
     f.1 in
     let h = parts_fit a [] b [] true link g.1 in
+    let m = parts_are a [] b [] true link g.1 in
     let alike = both_true (nat_eq i k) (has_shapes a.spatial b.spatial) (no_fault (nat_eq i k) LineDiffers f.0)
-    (mapped_shapes a.pure a.spatial link.map link.subst b.spatial (parts_are a [] b [] true link g.1).1) in
+    (mapped_shapes a.pure a.spatial link.map link.subst b.spatial m.1) in
     record {
       all = true;
       pure = h.0;
@@ -208,6 +222,8 @@ fits (Runs i a) (Runs k b) p link e =
       disjunct = h.2;
       keeps = kept_below link.subst p (no_fault (keeps_below link.subst p) LinkProgramVariable g.0);
       alike = alike;
+      taken = m.1;
+      covers = m.3;
     }
 
 module _ (bud companion : Judgement) (p : ℕ) where

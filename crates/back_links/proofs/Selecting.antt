@@ -1,7 +1,7 @@
 -- Choices in order, and the first of their links.
-use Rattle.std.proofs.Common.{◌≡◌, ℕ, zero, suc, ◌+◌, ◌-◌, ◌<◌, ◌≤◌, Bool, true, false, ◌||◌, cond, List, [], ◌∷◌, ◌++◌}
-use Rattle.std.proofs.Common.{map, length, get_or, take, drop, refl, sym, ap, ◌∙◌, subst, arith, append_assoc, add-one}
-use Rattle.std.proofs.Common.{drop-cons, inl, inr}
+use Rattle.std.proofs.Common.{◌≡◌, ℕ, zero, suc, ◌+◌, ◌-◌, ◌<◌, ◌≤◌, Bool, true, false, ◌||◌, ◌&&◌, cond, List, [], ◌∷◌}
+use Rattle.std.proofs.Common.{◌++◌, map, length, get_or, take, drop, refl, sym, ap, ◌∙◌, subst, arith, append_assoc}
+use Rattle.std.proofs.Common.{add-one, drop-cons, inl, inr}
 use Rattle.std.proofs.lemmas.List.{append-nil, take_all, drop_all, length-append, length-drop, take-append-le}
 use Rattle.std.proofs.lemmas.List.Concat.{flat_map-append}
 use Rattle.std.proofs.lemmas.List.Folds.{flat_map-map}
@@ -165,6 +165,12 @@ pub any_next : (test : ℕ → Bool) (m n : ℕ) (whole : Bool) → m < n → te
 any_next test m n whole lt not_m h =
     ap (λ b. b || list_any test (range_with_len (m + 1) (n - (m + 1)))) (sym not_m)
     ∙ ap (list_any test) (sym (range_next m n lt)) ∙ h
+
+pub all_next : (test : ℕ → Bool) (m n : ℕ) (whole : Bool) → m < n → test m ≡ true
+    → list_all test (range_with_len m (n - m)) ≡ whole → list_all test (range_with_len (m + 1) (n - (m + 1))) ≡ whole
+all_next test m n whole lt is_m h =
+    ap (λ b. b && list_all test (range_with_len (m + 1) (n - (m + 1)))) (sym is_m)
+    ∙ ap (list_all test) (sym (range_next m n lt)) ∙ h
 
 -- a filter over numbers in order, the next being kept or not
 pub kept_next : (test : ℕ → Bool) (m n : ℕ) (made whole : List ℕ) → m < n → test m ≡ true

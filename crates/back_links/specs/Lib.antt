@@ -3,3 +3,4 @@ pub mod Shapes
 pub mod Prospects
 pub mod Branches
 pub mod Searching
+pub mod Outlook

@@ -1,5 +1,6 @@
 // Disjuncts of the companion that say at least what the bud's say.
 ghost use Rattle.std.specs.Prelude.{◌≡◌, ◌≤◌, ◌<◌, ◌&&◌, ◌||◌, map, length, slice_get, slice_index};
+ghost use Rattle.rule_table.specs.Answer.{disjuncts as disjuncts_of};
 ghost use Rattle.heap_formula.specs.Substitution.{apply_pure, apply_spatial, apply_heap};
 ghost use Rattle.rule_table.specs.LinkTable.{counts_agree, same_atoms as atoms_agree, all_follow as pures_follow};
 ghost use Rattle.rule_table.specs.LinkTable.{covers_some, disjunct_fault as first_disjunct_fault};
@@ -7,8 +8,21 @@ ghost use Rattle.rule_table.specs.RuleLink.{count_of};
 ghost use Rattle.rule_table.specs.Tests.{has_pure, follows};
 
 use cyc_basics::limits::MOST_DISJUNCTS;
-use heap_formula::{Heap, Pure, RuleFault, Spatial, Subst, apply_to_pure, apply_to_spatial};
+use heap_formula::{
+    Heap, Judgement, Pure, RuleFault, Spatial, Subst, apply_to_pure, apply_to_spatial,
+};
 use rule_table::{equated, has_pure as has_atom};
+
+/// The disjuncts; none of a `from` judgement.
+pub fn disjuncts(judgement: &Judgement) -> &[Heap]
+    ensures value { result.now ≡ disjuncts_of judgement.now }
+    ensures few { length result.now ≤ MOST_DISJUNCTS }
+{
+    match judgement {
+        Judgement::Entail(_, bs) => bs.heaps(),
+        Judgement::Term(_, _) => &[],
+    }
+}
 
 /// How often the list has the atom.
 fn count_in(x: &Spatial, atoms: &[Spatial]) -> usize

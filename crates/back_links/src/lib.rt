@@ -6,6 +6,7 @@ mod covering;
 mod faults;
 mod listing;
 mod matching;
+mod outlook;
 mod prospects;
 mod shapes;
 mod variables;

@@ -1,35 +1,24 @@
 // All links from a bud to a companion, by depth-first search.
-ghost use Rattle.std.specs.Prelude.{ℕ, ◌≡◌, ◌≤◌, ◌∷◌, [], ◌++◌, length, take, IfOk, OnOk, None};
-ghost use Rattle.rule_table.specs.Answer.{disjuncts as disjuncts_of};
+ghost use Rattle.std.specs.Prelude.{ℕ, ◌≡◌, ◌≤◌, ◌∷◌, [], ◌++◌, false, length, take, IfOk, OnOk, None};
 ghost use Rattle.back_links.specs.Listing.{links, link_of, values_of, universals as universals_of, IsMade};
 ghost use Rattle.heap_formula.specs.Words.{OneOf};
 ghost use Rattle.heap_formula.specs.declared.judgements.Judgement.{Judgement as JudgementParts};
 ghost use Rattle.heap_formula.specs.declared.proof_rules.Link.{Link as LinkParts};
 ghost use Rattle.rule_table.specs.LinkTable.{link_fault as fault_of};
+ghost use Rattle.back_links.specs.Outlook.{LeavesNone, LeavesNoPairs};
 ghost use Rattle.back_links.specs.Searching.{MayStart, may_place, may_send, with_choice, found_with, link_if_right};
 ghost use Rattle.back_links.specs.Searching.{links_by_entries, links_by_pairs, links_by_places};
 
-use crate::covering::covers_at;
+use crate::covering::{covers_at, disjuncts};
 use crate::faults::link_fault;
+use crate::outlook::{covers_are_open, is_open};
 use crate::prospects::{
     Search, Start, are_alike, could_send, could_take, have_covers, have_values, start_of,
 };
 use crate::variables::{universals, values};
-use cyc_basics::limits::MOST_DISJUNCTS;
-use heap_formula::{Heap, Judgement, Link, OutOfMemory, Positions, Spatial, Subst, Term};
+use heap_formula::{Judgement, Link, OutOfMemory, Positions, Spatial, Subst, Term};
 use rule_table::antecedent;
 use std::alloc::Global;
-
-/// The disjuncts; none of a `from` judgement.
-fn disjuncts(judgement: &Judgement) -> &[Heap]
-    ensures value { result.now ≡ disjuncts_of judgement.now }
-    ensures few { length result.now ≤ MOST_DISJUNCTS }
-{
-    match judgement {
-        Judgement::Entail(_, bs) => bs.heaps(),
-        Judgement::Term(_, _) => &[],
-    }
-}
 
 fn with_number(alloc: Global, made: &[u32], m: u32) -> Result<Vec<u32>, OutOfMemory>
     ensures { IfOk result (λ v. v.items ≡ made.now ++ m ∷ []) }
@@ -60,6 +49,33 @@ fn put_place(
     Ok(false)
 }
 
+/// Puts the place after those made, if it leaves a link possible as far as is seen; by the values that the places force
+/// too where the choice before it was in vain, since that takes longer.
+fn put_open_place(
+    alloc: Global,
+    search: &Search<'_>,
+    made: &mut Vec<u32>,
+    m: u32,
+    x: &Spatial,
+    in_vain: bool,
+) -> Result<bool, OutOfMemory>
+    ensures closed { IfOk result (λ b. b ≡ false → LeavesNone search.now (made.old.items ++ m ∷ [])) }
+    ensures made { IfOk result (λ b. made.new.items ≡ with_choice b made.old.items m) }
+{
+    let put = put_place(search, made, m, x)?;
+    if !put {
+        return Ok(false);
+    }
+    if in_vain {
+        let stays = is_open(alloc, search, made)?;
+        if !stays {
+            let _ = made.pop();
+            return Ok(false);
+        }
+    }
+    Ok(true)
+}
+
 /// Puts the pair after those made, if it leaves a link possible, and says whether it did.
 fn put_pair(
     search: &Search<'_>,
@@ -79,6 +95,32 @@ fn put_pair(
     }
     let _ = made.pop();
     Ok(false)
+}
+
+/// Puts the pair after those made, if it leaves a link possible as far as is seen; by the disjuncts
+/// too where the choice before it was in vain.
+fn put_open_pair(
+    search: &Search<'_>,
+    places: &[u32],
+    start: Start,
+    made: &mut Vec<(u16, Term)>,
+    n: u16,
+    v: Term,
+    in_vain: bool,
+) -> Result<bool, OutOfMemory>
+    requires { MayStart search.now places.now n start }
+    ensures closed { IfOk result (λ b. b ≡ false → LeavesNoPairs search.now places.now (made.old.items ++ (n, v) ∷ [])) }
+    ensures made { IfOk result (λ b. made.new.items ≡ with_choice b made.old.items (n, v)) }
+{
+    let put = put_pair(search, places, start, made, n, v)?;
+    if !put {
+        return Ok(false);
+    }
+    if in_vain && !covers_are_open(search, made) {
+        let _ = made.pop();
+        return Ok(false);
+    }
+    Ok(true)
 }
 
 fn copy_of(alloc: Global, places: &[u32]) -> Result<Positions, OutOfMemory>
@@ -196,10 +238,13 @@ fn choose_values(
         return choose_covers(alloc, search, places, made, found);
     }
     let start = start_of(search, places, rest[0]);
+    let mut in_vain = false;
     for v in search.values {
-        let put = put_pair(search, places, start, made, rest[0], *v)?;
+        let put = put_open_pair(search, places, start, made, rest[0], *v, in_vain)?;
         if put {
+            let before = found.len();
             choose_values(alloc, search, places, made, &rest[1..], found)?;
+            in_vain = found.len() == before;
             let _ = made.pop();
         }
     }
@@ -225,10 +270,13 @@ fn choose_places(
         let mut pairs = Vec::new(alloc);
         return choose_values(alloc, search, made, &mut pairs, search.sources, found);
     }
+    let mut in_vain = false;
     for m in 0..antecedent(search.bud).spatial().len() {
-        let put = put_place(search, made, m as u32, &rest[0])?;
+        let put = put_open_place(alloc, search, made, m as u32, &rest[0], in_vain)?;
         if put {
+            let before = found.len();
             choose_places(alloc, search, made, &rest[1..], found)?;
+            in_vain = found.len() == before;
             let _ = made.pop();
         }
     }

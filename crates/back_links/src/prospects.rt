@@ -81,7 +81,7 @@ fn could_equal_all(pures: &[Pure], pairs: &[(u16, Term)], ts: &[Term], us: &[Ter
     ts.len() == us.len()
 }
 
-fn could_match(pures: &[Pure], pairs: &[(u16, Term)], x: &Spatial, y: &Spatial) -> bool
+pub fn could_match(pures: &[Pure], pairs: &[(u16, Term)], x: &Spatial, y: &Spatial) -> bool
     ensures { result ≡ atoms_could pures.now pairs.now x.now y.now }
 {
     match (x, y) {
@@ -96,7 +96,7 @@ fn could_match(pures: &[Pure], pairs: &[(u16, Term)], x: &Spatial, y: &Spatial) 
     }
 }
 
-fn could_match_at(
+pub fn could_match_at(
     pures: &[Pure],
     pairs: &[(u16, Term)],
     x: &Spatial,
@@ -147,7 +147,7 @@ fn could_match_those(
     true
 }
 
-fn known_pure(pairs: &[(u16, Term)], x: Pure) -> Option<Pure>
+pub fn known_pure(pairs: &[(u16, Term)], x: Pure) -> Option<Pure>
     ensures { result ≡ pure_known pairs.now x }
 {
     match x {
@@ -156,7 +156,7 @@ fn known_pure(pairs: &[(u16, Term)], x: Pure) -> Option<Pure>
     }
 }
 
-fn could_follow(pures: &[Pure], atom: Option<Pure>) -> bool
+pub fn could_follow(pures: &[Pure], atom: Option<Pure>) -> bool
     ensures { result ≡ pure_could pures.now atom }
 {
     match atom {

@@ -1,7 +1,7 @@
 pub mod Loops
 pub mod UnionsOf
-pub mod LocalLists
 pub mod Turns
+pub mod Locals
 pub mod AtomSteps
 pub mod Settled
 pub mod Complete

@@ -1,5 +1,5 @@
 -- Cases and questions that give nothing new.
-use Rattle.std.proofs.Common.{◌≡◌, ℕ, ◌+◌, ◌<◌, ◌≤◌, List, length, Bool, ◌||◌, Some, None, sym, ap, ◌∙◌, subst, inl}
+use Rattle.std.proofs.Common.{◌≡◌, ℕ, ◌+◌, ◌<◌, ◌≤◌, List, [], length, Bool, ◌||◌, Some, None, sym, ap, ◌∙◌, subst, inl}
 use Rattle.std.proofs.Common.{inr, arith}
 use Rattle.std.specs.Prelude.{slice_get}
 use Rattle.std.proofs.lemmas.Bool.{cases_lt}
@@ -15,26 +15,23 @@ use Rattle.heap_formula.proofs.StageLaws.{OneOf-map}
 use Rattle.cyc_basics.specs.Words.{IsMember}
 use Rattle.model_check.specs.Questions.{Question}
 use Rattle.model_check.specs.Grounding.{IsQuestion}
-use Rattle.counter_model.specs.LocalValues.{IsChoice}
-use Rattle.counter_model.specs.Findings.{Findings, IsFound, found_if_asked, FitsCase, TakesCases, IsSettled}
+use Rattle.counter_model.specs.Findings.{Findings, IsFound, found_if_asked, FitsBehind, FitsCase, TakesCases, IsSettled}
 use Rattle.counter_model.specs.Findings.{UnlessGrown}
 use Rattle.counter_model.proofs.Turns.{both_steps, then}
 use Rattle.std.proofs.lemmas.Option.{same_Some, slice_get_past}
 
--- all choices of locals are done
+-- a case is done where all values of its locals are
 pub case_taken : (n : ℕ) (t0 t1 : Findings) (grown : Bool) (q count : ℕ) (vs : List ℕ) (b : SymbolicHeap)
-    (pure : List Pure) (all view : List Stack) → count ≡ heap_exists b → pure ≡ b.pure
-    → ((e : Stack) → IsChoice n count vs pure e → IsMember e all) → view ≡ all
-    → UnlessGrown grown t0 t1 ((h : Cells) → OneOf (λ e. SpatialHolds (λ _. found_if_asked n t0) vs e b.spatial h) view
+    → count ≡ heap_exists b → UnlessGrown grown t0 t1 ((h : Cells) → FitsBehind n (found_if_asked n t0) vs h b [] count
     → IsFound n t0 q h) → UnlessGrown grown t0 t1 ((h : Cells) → FitsCase n (found_if_asked n t0) vs h b
     → IsFound n t0 q h)
-case_taken n t0 t1 grown q count vs b pure all view ce pe f ve =
-    then t0 t1 grown (λ g h k.
-    let m : IsMember k.locals all = f k.locals (subst (λ ps. IsChoice n count vs ps k.locals) (sym pe)
-    (record { long = k.long ∙ sym ce; small = k.small; holds = k.holds.0 })) in
-    g h (subst (OneOf (λ e. SpatialHolds (λ _. found_if_asked n t0) vs e b.spatial h)) (sym ve)
-    (OneOf-map (λ e. e ≡ k.locals) (λ e. SpatialHolds (λ _. found_if_asked n t0) vs e b.spatial h)
-    (λ e same. subst (λ y. SpatialHolds (λ _. found_if_asked n t0) vs y b.spatial h) (sym same) k.holds.1) all m)))
+case_taken n t0 t1 grown q count vs b ce =
+    then t0 t1 grown (λ g h k. g h (record {
+      behind = k.locals;
+      long = k.long ∙ sym ce;
+      small = k.small;
+      holds = k.holds;
+    }))
 
 -- a question whose cases are done is settled
 pub question_settled : (ds : List Definition) (n : ℕ) (t0 t1 : Findings) (grown : Bool) (q p : ℕ) (question : Question)

@@ -7,9 +7,21 @@ use Rattle.heap_formula.specs.Values.{Stack}
 use Rattle.heap_formula.proofs.StageLaws.{OneOf-map}
 use Rattle.cyc_basics.specs.Words.{IsMember}
 use Rattle.counter_model.proofs.Loops.{pushed}
-use Rattle.counter_model.proofs.LocalLists.{take_next, take_all}
 use Rattle.counter_model.specs.Tightness.{Breaks, IsStack, IsStep}
 use Rattle.heap_formula.proofs.AllMembers.{each_last}
+
+-- ---- the front of a stack
+
+take_next : (e : Stack) (k : ℕ) → k < length e → take (suc k) e ≡ take k e ++ get_or e k 0 ∷ []
+take_next [] k h = absurd (omega arith)
+take_next (x ∷ e) zero h = refl
+take_next (x ∷ e) (suc k) h = ap (λ y. x ∷ y) (take_next e k (omega arith))
+
+take_all : (e : Stack) (k : ℕ) → length e ≡ k → take k e ≡ e
+take_all [] zero h = refl
+take_all [] (suc k) h = refl
+take_all (x ∷ e) zero h = absurd (omega arith)
+take_all (x ∷ e) (suc k) h = ap (λ y. x ∷ y) (take_all e k (omega arith))
 
 -- ---- adding entries
 

@@ -1,5 +1,6 @@
 -- The heaps found so far of which predicates may hold, and when all are found.
-use Rattle.std.specs.Prelude.{◌≡◌, ◌<◌, ◌+◌, ℕ, List, [], Bool, true, false, Option, Some, None, length, slice_get}
+use Rattle.std.specs.Prelude.{◌≡◌, ◌<◌, ◌+◌, ℕ, List, [], ◌++◌, Bool, true, false, Option, Some, None, length}
+use Rattle.std.specs.Prelude.{slice_get}
 use Rattle.std.specs.List.{sum_by}
 use Rattle.heap_formula.specs.Symbolic.{SymbolicHeap}
 use Rattle.heap_formula.specs.Definitions.{Definition}
@@ -37,6 +38,14 @@ pub record FitsCase (n : ℕ) (P : Family) (vs : List ℕ) (h : Cells) (b : Symb
   pub long : length locals ≡ heap_exists b
   pub small : AreAtMost n locals
   pub holds : Holds (λ _. P) vs locals b h
+
+-- the same, where the first locals have these values and so many come after them
+pub record FitsBehind (n : ℕ) (P : Family) (vs : List ℕ) (h : Cells) (b : SymbolicHeap) (made : Stack) (left : ℕ)
+    : Type 0 where
+  pub behind : Stack
+  pub long : length behind ≡ left
+  pub small : AreAtMost n behind
+  pub holds : Holds (λ _. P) vs (made ++ behind) b h
 
 -- where one of the cases holds by what is found, the heap is found for question q
 abbrev pub TakesCases : ℕ → Findings → ℕ → List ℕ → List SymbolicHeap → Type 0

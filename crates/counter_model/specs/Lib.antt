@@ -1,6 +1,5 @@
 pub mod Bounds
 pub mod Findings
-pub mod LocalValues
 pub mod Sizes
 pub mod FirstCounter
 pub mod Tightness

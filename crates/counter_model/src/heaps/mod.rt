@@ -2,7 +2,6 @@
 //! They are built from the cases of the definitions up, as a least fixed point.
 
 mod asking;
-mod choices;
 mod combining;
 mod fitting;
 mod refreshing;

@@ -1,13 +1,14 @@
 // One more turn: what the cases of the predicates give by what is found so far.
-ghost use Rattle.std.specs.Prelude.{ℕ, IfOk};
+ghost use Rattle.std.specs.Prelude.{◌≡◌, ◌++◌, ◌∷◌, [], ℕ, IfOk};
 ghost use Rattle.heap_formula.specs.Cells.{Cells as SomeHeap};
 ghost use Rattle.heap_formula.specs.Meaning.{SpatialHolds};
 ghost use Rattle.counter_model.specs.Bounds.{IsAmong};
-ghost use Rattle.counter_model.specs.Findings.{found_if_asked, IsFound, FitsCase, TakesCases, IsSettled, UnlessGrown};
+ghost use Rattle.counter_model.specs.Findings.{found_if_asked, IsFound, FitsBehind, FitsCase, TakesCases, IsSettled};
+ghost use Rattle.counter_model.specs.Findings.{UnlessGrown};
 
 use crate::heaps::asking::unions;
-use crate::heaps::choices::choices;
 use crate::heaps::table::Table;
+use crate::heaps::values::may_all_hold;
 use cyc_basics::memory::OutOfMemory;
 use goto_lang::Cells;
 use heap_formula::{Heap, exists_in_heap};
@@ -46,6 +47,46 @@ fn refresh_at(
     Ok(is_new || grown)
 }
 
+fn extended(alloc: Global, locals: &[u64], value: u64) -> Result<Vec<u64>, OutOfMemory>
+    ensures { IfOk result (λ v. v.items ≡ locals.now ++ value ∷ []) }
+{
+    let mut longer = Vec::from_slice(alloc, locals)?;
+    longer.push(value)?;
+    Ok(longer)
+}
+
+/// Adds what a case gives at these values of its parameters and first locals, and so many more locals: all lists of
+/// values from 0 to the greatest in lexicographic order, each made when it is tried, but those that begin in a way in
+/// which the pure atoms can't hold.
+fn refresh_behind(
+    alloc: Global,
+    greatest: u32,
+    table: &mut Table,
+    q: usize,
+    values: &[u64],
+    case: &Heap,
+    locals: &[u64],
+    left: u32,
+) -> Result<bool, OutOfMemory>
+    ensures { IfOk result (λ grown. UnlessGrown grown table.old table.new ((h : SomeHeap)
+        → FitsBehind greatest (found_if_asked greatest table.old) values.now h case.now locals.now left
+        → IsFound greatest table.old q h)) }
+{
+    if !may_all_hold(values, locals, case.pure()) {
+        return Ok(false);
+    }
+    if left == 0 {
+        return refresh_at(alloc, greatest, table, q, values, locals, case);
+    }
+    let mut grown = false;
+    for value in 0..greatest as u64 + 1 {
+        let longer = extended(alloc, locals, value)?;
+        let is_new = refresh_behind(alloc, greatest, table, q, values, case, &longer, left - 1)?;
+        grown = grown || is_new;
+    }
+    Ok(grown)
+}
+
 /// Adds what a case gives at these values of its parameters.
 fn refresh_case(
     alloc: Global,
@@ -59,13 +100,8 @@ fn refresh_case(
         → FitsCase greatest (found_if_asked greatest table.old) values.now h case.now
         → IsFound greatest table.old q h)) }
 {
-    let all = choices(alloc, greatest, exists_in_heap(case), values, case.pure())?;
-    let mut grown = false;
-    for locals in &all {
-        let is_new = refresh_at(alloc, greatest, table, q, values, locals.as_slice(), case)?;
-        grown = grown || is_new;
-    }
-    Ok(grown)
+    let count = exists_in_heap(case);
+    refresh_behind(alloc, greatest, table, q, values, case, &[], count)
 }
 
 fn refresh_cases(

@@ -1,5 +1,4 @@
-use Rattle.std.proofs.Common.{◌≡◌, ℕ, false, ◌<◌, ◌≤◌, ◌++◌, ◌∷◌, [], List, length, take, drop, sym, ap, ◌∙◌, subst}
-use Rattle.std.proofs.Common.{arith}
+use Rattle.std.proofs.Common.{◌≡◌, ℕ, ◌<◌, ◌≤◌, ◌++◌, ◌∷◌, [], List, length, take, drop, sym, ap, ◌∙◌, subst, arith}
 use Rattle.std.specs.Prelude.{if◌then◌else◌}
 use Rattle.std.specs.Result.{OnOk}
 use Rattle.heap_formula.specs.Symbolic.{SymbolicHeap}
@@ -8,10 +7,9 @@ use Rattle.heap_formula.specs.declared.atoms.Spatial.{Spatial}
 use Rattle.heap_formula.specs.declared.proof_rules.Link.{Link}
 use Rattle.heap_formula.specs.Judgements.{antecedent}
 use Rattle.back_links.specs.Listing.{number_choices, value_choices}
-use Rattle.back_links.specs.Prospects.{could_place}
 use Rattle.back_links.specs.Branches.{by_places, by_pairs}
 use Rattle.back_links.proofs.Selecting.{number_next, number_cut, numbers_done, tail_is, last_off}
-use Rattle.back_links.proofs.Cuts.{places_end, places_all, could_cut}
+use Rattle.back_links.proofs.Cuts.{places_end, places_all}
 use Rattle.back_links.proofs.listing.+choose_places.Goals.{then-put+in_ok-choose_places, else-put}
 use Rattle.back_links.proofs.listing.+choose_places.Goals as goal
 use Rattle.std.proofs.lemmas.List.{nil_from_length}
@@ -29,7 +27,7 @@ loop-m-preserved t c =
     let same : c.loop-m.made.items ≡ old = c.loop-m.invariant.2 in
     elim c.if-put.branch [
       | then-put+in_ok-choose_places w ↦
-          let grown : c.put_place.new.made.items ≡ old ++ c.loop-m.m ∷ [] = c.in_ok-put.ensures.made
+          let grown : c.put_open_place.new.made.items ≡ old ++ c.loop-m.m ∷ [] = c.in_ok-put.ensures.made
           ∙ (λ i. if w.if-put.true i then same i ++ c.loop-m.m ∷ [] else same i) in
           let next = number_next s.most (λ (m : ℕ). from (old ++ m ∷ []))
           w.choose_places.new.found.items c.loop-m.found.items c.loop-m.m (length (antecedent s.bud.now).spatial)
@@ -45,17 +43,14 @@ loop-m-preserved t c =
                 (w.in_ok-choose_places.ensures.made ∙ grown) w.choose_places.new.made.ok.0 w.pop.ensures.rest,
           )
       | else-put w ↦
-          let nothing : could_place s.bud.now s.companion.now s.variables s.values.now old c.loop-m.m
-          c.index-rest-0.result s.sources.now ≡ false = subst
-          (λ (ms : List ℕ). could_place s.bud.now s.companion.now s.variables s.values.now ms c.loop-m.m
-          c.index-rest-0.result s.sources.now ≡ false) same (sym c.in_ok-put.ensures.could ∙ w.if-put.false) in
-          let kept : c.put_place.new.made.items ≡ old = c.in_ok-put.ensures.made
+          let places = number_choices (antecedent s.bud.now).spatial (drop 1 c.args.rest.now) in
+          let nothing : from (old ++ c.loop-m.m ∷ [])
+          ≡ [] = subst (λ (ms : List ℕ). from (ms ++ c.loop-m.m ∷ []) ≡ []) same
+          (c.in_ok-put.ensures.closed w.if-put.false places) in
+          let kept : c.put_open_place.new.made.items ≡ old = c.in_ok-put.ensures.made
           ∙ (λ i. if w.if-put.false i then same i ++ c.loop-m.m ∷ [] else same i) in
           let next = number_cut s.most (λ (m : ℕ). from (old ++ m ∷ [])) c.loop-m.found.items c.loop-m.m
-          (length (antecedent s.bud.now).spatial) _ below
-          (could_cut s.bud.now s.companion.now s.target s.variables s.values.now s.sources.now old c.loop-m.m
-          c.index-rest-0.result (number_choices (antecedent s.bud.now).spatial (drop 1 c.args.rest.now)) nothing)
-          c.loop-m.invariant.1 c.loop-m.invariant.0 in
+          (length (antecedent s.bud.now).spatial) _ below nothing c.loop-m.invariant.1 c.loop-m.invariant.0 in
           rw (w.found-is, w.made-is) (next.0, next.1, kept)
     ]
 

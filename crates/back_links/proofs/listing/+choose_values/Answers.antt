@@ -1,5 +1,4 @@
-use Rattle.std.proofs.Common.{◌≡◌, ℕ, false, ◌<◌, ◌++◌, ◌∷◌, [], List, length, take, drop, get_or, sym, ap, ◌∙◌, subst}
-use Rattle.std.proofs.Common.{arith}
+use Rattle.std.proofs.Common.{◌≡◌, ℕ, ◌<◌, ◌++◌, ◌∷◌, [], List, length, take, drop, get_or, sym, ap, ◌∙◌, subst, arith}
 use Rattle.std.specs.Prelude.{if◌then◌else◌}
 use Rattle.std.specs.Result.{OnOk}
 use Rattle.std.proofs.lemmas.Bool.Decides.{nat_tests}
@@ -9,10 +8,9 @@ use Rattle.heap_formula.specs.declared.proof_rules.Link.{Link}
 use Rattle.heap_formula.specs.Substitution.{Bindings}
 use Rattle.rule_table.specs.Answer.{disjuncts}
 use Rattle.back_links.specs.Listing.{value_choices, number_choices}
-use Rattle.back_links.specs.Prospects.{could_send}
 use Rattle.back_links.specs.Branches.{by_pairs, by_entries}
 use Rattle.back_links.proofs.Selecting.{item_next, item_cut, items_done, tail_is, last_off}
-use Rattle.back_links.proofs.Cuts.{pairs_end, pairs_all, value_cut}
+use Rattle.back_links.proofs.Cuts.{pairs_end, pairs_all}
 use Rattle.back_links.proofs.listing.+choose_values.Goals.{then-put+in_ok-choose_values, else-put}
 use Rattle.back_links.proofs.listing.+choose_values.Goals as goal
 use Rattle.std.proofs.lemmas.List.{nil_from_length}
@@ -28,7 +26,7 @@ loop-v-preserved t c =
     let same : c.loop-v.made.items ≡ old = c.loop-v.invariant.2 in
     elim c.if-put.branch [
       | then-put+in_ok-choose_values w ↦
-          let grown : c.put_pair.new.made.items ≡ old ++ (n, v) ∷ [] = c.in_ok-put.ensures.made
+          let grown : c.put_open_pair.new.made.items ≡ old ++ (n, v) ∷ [] = c.in_ok-put.ensures.made
           ∙ (λ i. if w.if-put.true i then same i ++ (n, v) ∷ [] else same i) in
           let next = item_next s.most (λ (u : Term). from (old ++ (n, u) ∷ []))
           w.choose_values.new.found.items c.loop-v.found.items s.values.now c.loop-v.v-index Nil _
@@ -44,16 +42,14 @@ loop-v-preserved t c =
                 w.choose_values.new.made.ok.0 w.pop.ensures.rest,
           )
       | else-put w ↦
-          let nothing : could_send s.bud.now s.companion.now s.variables c.args.places.now (old ++ (n, v) ∷ []) n
-          ≡ false = subst (λ (q : Bindings). could_send s.bud.now s.companion.now s.variables c.args.places.now
-          (q ++ (n, v) ∷ []) n ≡ false) same (sym c.in_ok-put.ensures.could ∙ w.if-put.false) in
-          let kept : c.put_pair.new.made.items ≡ old = c.in_ok-put.ensures.made
+          let values = value_choices s.values.now (drop 1 c.args.rest.now) in
+          let nothing : from (old ++ (n, v) ∷ []) ≡ [] = subst (λ (q : Bindings). from (q ++ (n, v) ∷ []) ≡ []) same
+          (c.in_ok-put.ensures.closed w.if-put.false values) in
+          let kept : c.put_open_pair.new.made.items ≡ old = c.in_ok-put.ensures.made
           ∙ (λ i. if w.if-put.false i then same i ++ (n, v) ∷ [] else same i) in
           let next = item_cut s.most (λ (u : Term). from (old ++ (n, u) ∷ []))
-          c.loop-v.found.items s.values.now c.loop-v.v-index Nil _ c.loop-v-test.true
-          (value_cut s.bud.now s.companion.now s.target s.variables c.args.places.now (old ++ (n, v) ∷ []) n
-          (value_choices s.values.now (drop 1 c.args.rest.now)) nothing) c.loop-v.invariant.1 c.loop-v.invariant.0
-          in
+          c.loop-v.found.items s.values.now c.loop-v.v-index Nil _ c.loop-v-test.true nothing c.loop-v.invariant.1
+          c.loop-v.invariant.0 in
           rw (w.found-is, w.made-is) (next.0, next.1, kept)
     ]
 
