@@ -1,4 +1,2 @@
-pub mod Past
-pub mod Found
 pub mod Answered
 pub mod Succeeding

@@ -1,0 +1,4 @@
+pub mod Texts
+pub mod Skipping
+pub mod Unfit
+pub mod Built

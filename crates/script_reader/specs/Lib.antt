@@ -1,0 +1,5 @@
+pub mod Bytes
+pub mod Pieces
+pub mod Tokens
+pub mod Faults
+pub mod Weight
