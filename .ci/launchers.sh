@@ -72,9 +72,9 @@ current 'a removed crate came back'
 
 echo '# another remark' >> "$copy/crates.txt"
 current 'a remark was added to crates.txt'
-sed -i 's/^cyclist_draw:.*/& list_facts/' "$copy/crates.txt"
+sed -i 's/^cyclist_draw:.*/& trace_pairs/' "$copy/crates.txt"
 current 'the line of a crate that is not below was changed in crates.txt'
-sed -i 's/^pred_defs:.*/& list_facts/' "$copy/crates.txt"
+sed -i 's/^pred_defs:.*/& trace_pairs/' "$copy/crates.txt"
 stale 'the line of a crate below was changed in crates.txt'
 cp "$room/crates.txt" "$copy"
 current 'crates.txt was changed back'

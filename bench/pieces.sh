@@ -8,7 +8,7 @@ top=$(cd "$(dirname "${BASH_SOURCE[0]}")/.." && pwd)
 work=$(mktemp -d)
 trap 'rm -rf "$work"' EXIT
 mkdir "$work/crates"
-for name in cyc_memory cyc_lex piecewise_lex; do
+for name in cyc_basics cyc_lex piecewise_lex; do
   cp -r "$top/crates/$name" "$work/crates/"
   grep "^$name:" "$top/crates.txt" >> "$work/crates.txt"
 done

@@ -3,6 +3,7 @@
 #![tactic(auto)]
 
 pub mod calculus;
+mod found;
 pub mod laws;
 mod logic;
 pub mod moves;

@@ -1,7 +1,6 @@
 pub mod NoteLaws
 pub mod SameWords
 pub mod PassedOver
-pub mod Scripts
 pub mod Wrote
 pub mod Exact
 pub mod Told

@@ -91,8 +91,7 @@ goal ls(x, y) |- true : emp;
 ",
         b"  goal ls(x, y) |- true : emp;
          ^
-\"(\" was found; \"=\", \"!=\" or \"'\" was expected;
-    pure atoms or \"true\" and then \":\" stand before the spatial atoms, as in true : ls(x, y)
+\"(\" was found; \"=\", \"!=\" or \"'\" was expected; pure atoms or \"true\" and then \":\" stand before the spatial atoms, as in true : ls(x, y)
 ",
     ),
     // The arrow of other notations.

@@ -27,8 +27,7 @@ con pair 2;
 pred n(1) { $0 = z() | $0 = s(?0), n(?0) };
 pred add(3) { $0 = z(), $1 = $2 | $0 = s(?0), $2 = s(?15), add(?0, $1, ?15) };
 pred q(0) { true };
-node n($0), add(pair(s($0), z()), $65534, pair(z(), pair($1, z()))) |- q(),
-    pair($1, s(z())) = $2 by Axiom 0 4000 to 1 2;
+node n($0), add(pair(s($0), z()), $65534, pair(z(), pair($1, z()))) |- q(), pair($1, s(z())) = $2 by Axiom 0 4000 to 1 2;
 node true |- false by Replace 7 right;
 node q() |- q() by Cut add(z(), pair(z(), z()), s(z()));
 node q() |- q() by Right 0 1 [$3, s(pair($1, z()))] to 2;

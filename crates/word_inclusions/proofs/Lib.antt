@@ -1,2 +1,4 @@
+pub mod Past
+pub mod Found
 pub mod Answered
 pub mod Succeeding

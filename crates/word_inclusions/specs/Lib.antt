@@ -1,8 +1,13 @@
 pub mod Expressions
+pub mod Codes
 pub mod Language
 pub mod Inclusions
 pub mod Stages
+pub mod Places
 pub mod Derivatives
-pub mod Laws
+pub mod LogicLaws
+pub mod Searches
 pub mod Grammar
+pub mod Reading
+pub mod Answers
 pub mod Tasks

@@ -1,7 +1,7 @@
 use Rattle.std.proofs.Common.{◌<◌, length, arith}
 use Rattle.std.proofs.lemmas.Result.{IfOk-weaker}
-use Rattle.word_texts.specs.Answers.{HasNone, HasVerdict}
-use Rattle.word_inclusions.proofs.texts.Answered.{both_ok}
+use Rattle.word_inclusions.specs.Answers.{HasNone, HasVerdict}
+use Rattle.word_inclusions.proofs.Answered.{both_ok}
 use Rattle.word_inclusions.proofs.texts.answers.answer_to_proof.Goals as goal
 
 pub returns-then-nodes-eq0-clause-answered : goal.returns-then-nodes-eq0-clause-answered

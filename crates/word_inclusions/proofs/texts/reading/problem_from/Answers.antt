@@ -7,7 +7,7 @@ use Rattle.cyc_grammar.proofs.WholeTexts.{words-placed, all-tokens}
 use Rattle.word_inclusions.specs.Expressions.{Sides}
 use Rattle.word_inclusions.specs.Grammar.{read_problem}
 use Rattle.word_inclusions.specs.Reading.{whole}
-use Rattle.word_inclusions.proofs.texts.Answered.{told}
+use Rattle.word_inclusions.proofs.Answered.{told}
 use Rattle.word_inclusions.proofs.texts.reading.problem_from.Goals as goal
 
 pub new-requires : goal.new-requires

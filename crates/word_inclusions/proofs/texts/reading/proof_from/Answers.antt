@@ -7,7 +7,7 @@ use Rattle.cyc_grammar.specs.Giving.{Fails}
 use Rattle.cyc_grammar.proofs.WholeTexts.{words-placed, all-tokens}
 use Rattle.word_inclusions.specs.Grammar.{FileNode, read_proof}
 use Rattle.word_inclusions.specs.Reading.{whole}
-use Rattle.word_inclusions.proofs.texts.Answered.{told}
+use Rattle.word_inclusions.proofs.Answered.{told}
 use Rattle.word_inclusions.proofs.texts.reading.proof_from.Goals as goal
 
 pub new-requires : goal.new-requires

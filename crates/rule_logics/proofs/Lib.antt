@@ -1,4 +1,0 @@
-pub mod Loops
-pub mod Suits
-pub mod Answered
-pub mod Succeeding

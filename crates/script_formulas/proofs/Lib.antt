@@ -1,9 +1,0 @@
-pub mod SortedHeaps
-pub mod Answers
-pub mod Extending
-pub mod Fine
-pub mod JoinedCases
-pub mod SameMeaning
-pub mod Stacks
-pub mod Coding
-pub mod SideSteps

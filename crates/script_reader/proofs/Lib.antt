@@ -1,4 +1,0 @@
-pub mod Texts
-pub mod Skipping
-pub mod Unfit
-pub mod Built
