@@ -26,3 +26,4 @@ pub mod Combined
 pub mod Growing
 pub mod Interned
 pub mod Sized
+pub mod Relabelling

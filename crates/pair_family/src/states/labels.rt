@@ -17,32 +17,30 @@ fn relabel_one(label: u64, old: u64, new: u64) -> u64
     if label == old { new } else { label }
 }
 
-/// Labels where the class of one label is that of another.
-pub fn relabel(alloc: Global, labels: &[u64], old: u64, new: u64) -> Result<Vec<u64>, AllocError>
-    ensures { IfOk result (λ v. v.items ≡ map (relabelled old new) labels.now) }
+/// The class of one label becomes that of another.
+fn relabel(labels: &mut [u64], old: u64, new: u64)
+    ensures { labels.new ≡ map (relabelled old new) labels.old }
 {
-    let mut out = Vec::new(alloc);
-    for label in labels {
-        out.push(relabel_one(*label, old, new))?;
+    for label in labels.iter_mut() {
+        *label = relabel_one(*label, old, new);
     }
-    Ok(out)
 }
 
-/// The labels that some difference joins with a label.
-pub fn neighbours_of(
-    alloc: Global,
+/// Fills a list with the labels that some difference joins with a label.
+fn fill_neighbours(
+    near: &mut Vec<u64>,
     differences: &[(u64, u64)],
     label: u64,
-) -> Result<Vec<u64>, AllocError>
-    ensures { IfOk result (λ v. v.items ≡ neighbours label differences.now) }
+) -> Result<(), AllocError>
+    ensures { IfOk result (λ _. near.new.items ≡ neighbours label differences.now) }
 {
-    let mut near = Vec::new(alloc);
+    near.clear();
     for difference in differences {
         let (left, right) = *difference;
-        push_label_if(&mut near, left == label, right)?;
-        push_label_if(&mut near, right == label, left)?;
+        push_label_if(near, left == label, right)?;
+        push_label_if(near, right == label, left)?;
     }
-    Ok(near)
+    Ok(())
 }
 
 fn push_label_if(labels: &mut Vec<u64>, holds: bool, label: u64) -> Result<(), AllocError>
@@ -84,7 +82,7 @@ fn push_same(pairs: &mut Vec<(usize, usize)>, labels: &[u64], j: usize) -> Resul
 pub fn same_pairs(alloc: Global, labels: &[u64]) -> Result<Vec<(usize, usize)>, AllocError>
     ensures { IfOk result (λ v. v.items ≡ filter (has_same labels.now) (pairs_below (length labels.now))) }
 {
-    let mut pairs = Vec::new(alloc);
+    let mut pairs = Vec::with_capacity(alloc, labels.len())?;
     for j in 0..labels.len() {
         push_same(&mut pairs, labels, j)?;
     }
@@ -94,8 +92,8 @@ pub fn same_pairs(alloc: Global, labels: &[u64]) -> Result<Vec<(usize, usize)>, 
 /// The pairs (i, j) whose labels some difference joins, for this j.
 #[tactic(auto, using(crate::proofs::Rows::difference_row))]
 fn push_differing(
-    alloc: Global,
     pairs: &mut Vec<(usize, usize)>,
+    near: &mut Vec<u64>,
     labels: &[u64],
     differences: &[(u64, u64)],
     j: usize,
@@ -104,9 +102,9 @@ fn push_differing(
     ensures { IfOk result (λ _. pairs.new.items
         ≡ pairs.old.items ++ filter (has_difference labels.now differences.now) (row j j)) }
 {
-    let near = neighbours_of(alloc, differences, labels[j])?;
+    fill_neighbours(near, differences, labels[j])?;
     for i in 0..j {
-        push_if(pairs, has_label(&near, labels[i]), (i, j))?;
+        push_if(pairs, has_label(near, labels[i]), (i, j))?;
     }
     Ok(())
 }
@@ -120,9 +118,10 @@ pub fn differing_pairs(
 ) -> Result<Vec<(usize, usize)>, AllocError>
     ensures { IfOk result (λ v. v.items ≡ different_pairs labels.now differences.now) }
 {
-    let mut pairs = Vec::new(alloc);
+    let mut pairs = Vec::with_capacity(alloc, differences.len())?;
+    let mut near = Vec::with_capacity(alloc, labels.len())?;
     for j in 0..labels.len() {
-        push_differing(alloc, &mut pairs, labels, differences, j)?;
+        push_differing(&mut pairs, &mut near, labels, differences, j)?;
     }
     Ok(pairs)
 }
@@ -190,15 +189,14 @@ fn label_at(labels: &[u64], i: usize) -> u64
     }
 }
 
-/// Labels where the class of one label is that of another; nothing is to be done where they are one.
+/// The class of one label becomes that of another; nothing is to be done where they are one.
 #[tactic(auto, using(crate::proofs::Rows::joined_alone))]
-fn join(alloc: Global, labels: Vec<u64>, old: u64, new: u64) -> Result<Vec<u64>, AllocError>
-    ensures { IfOk result (λ v. v.items ≡ map (relabelled old new) labels.items) }
+fn join(labels: &mut [u64], old: u64, new: u64)
+    ensures { labels.new ≡ map (relabelled old new) labels.old }
 {
-    if old == new {
-        return Ok(labels);
+    if old != new {
+        relabel(labels, old, new);
     }
-    relabel(alloc, &labels, old, new)
 }
 
 /// The labels after equations between numbers.
@@ -209,12 +207,13 @@ pub fn join_all(
 ) -> Result<Vec<u64>, AllocError>
     ensures { IfOk result (λ v. v.items ≡ joined_labels start.now equations.now) }
 {
-    let mut labels = relabel(alloc, start, 0, 0)?;
+    let mut labels = Vec::with_capacity(alloc, start.len())?;
+    labels.extend_from_slice(start)?;
     for equation in equations {
         let (left, right) = *equation;
         let old = label_at(&labels, right);
         let new = label_at(&labels, left);
-        labels = join(alloc, labels, old, new)?;
+        join(&mut labels, old, new);
     }
     Ok(labels)
 }
@@ -236,7 +235,7 @@ pub fn are_apart(differences: &[(u64, u64)]) -> bool
 pub fn labels_of(alloc: Global, labels: &[u64], numbers: &[usize]) -> Result<Vec<u64>, AllocError>
     ensures { IfOk result (λ v. v.items ≡ labels_at labels.now numbers.now) }
 {
-    let mut out = Vec::new(alloc);
+    let mut out = Vec::with_capacity(alloc, numbers.len())?;
     for number in numbers {
         out.push(label_at(labels, *number))?;
     }
@@ -298,7 +297,7 @@ pub fn differences_of(
     ensures { IfOk result (λ v. v.items
         ≡ label_pairs labels.now differences.now ++ cell_pairs (slice_index labels.now 0) cells.now) }
 {
-    let mut out = Vec::new(alloc);
+    let mut out = Vec::with_capacity(alloc, differences.len())?;
     push_label_pairs(&mut out, labels, differences)?;
     push_against(&mut out, cells, label_at(labels, 0))?;
     push_each_two(&mut out, cells)?;
@@ -323,7 +322,7 @@ pub fn pairs_then(
 ) -> Result<Vec<(usize, usize)>, AllocError>
     ensures { IfOk result (λ v. v.items ≡ own.now ++ pairs_at places.now others.now) }
 {
-    let mut out = Vec::new(alloc);
+    let mut out = Vec::with_capacity(alloc, own.len().saturating_add(others.len()))?;
     for pair in own {
         let (left, right) = *pair;
         out.push((left, right))?;
@@ -343,7 +342,7 @@ pub fn numbers_then(
 ) -> Result<Vec<usize>, AllocError>
     ensures { IfOk result (λ v. v.items ≡ own.now ++ numbers_at places.now others.now) }
 {
-    let mut out = Vec::new(alloc);
+    let mut out = Vec::with_capacity(alloc, own.len().saturating_add(others.len()))?;
     for number in own {
         out.push(*number)?;
     }

@@ -6,4 +6,4 @@ pub loop-i-preserved : goal.loop-i-preserved
 loop-i-preserved c =
     difference_row c.args.labels.now c.args.differences.now c.args.j c.loop-i.i c.has_label.result c.deref.result.now
     c.args.pairs.now.items c.loop-i.pairs.items c.push_if.new.pairs.items c.loop-i.invariant c.has_label.ensures
-    (c.deref.ensures.value ∙ c.in_ok-near.ensures) c.in_ok-push_if.ensures
+    (c.deref.ensures.value ∙ c.in_ok-fill_neighbours.ensures) c.in_ok-push_if.ensures
