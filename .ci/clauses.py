@@ -25,7 +25,7 @@ def without_clause(path):
     of_trait = False
     for number, line in enumerate(lines):
         if re.match(r"(pub )?(impl|trait)\b", line):
-            of_trait = " for " in line
+            of_trait = " for " in (line if line.endswith("{") else line + lines[number + 1])
         elif re.match(r"\S", line):
             of_trait = False
         found = FUNCTION.match(line)

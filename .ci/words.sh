@@ -36,6 +36,11 @@ says() { # STATUS LINE < PROOF
   [ "$?" = "$1" ] && [ "$(cat "$room/line")" = "$2" ] || fail "wanted '$2', came '$(cat "$room/line")'"
 }
 
+has_no_meaning() { # WORD..
+  "$program" "$@" < /dev/null > "$room/line"
+  [ "$?" = 2 ] && [ "$(cat "$room/line")" = 'usage: words check | prove [--depth N]' ] || fail "the words '$*': $(cat "$room/line")"
+}
+
 are_equal '(a | b)*' 'a* (b a*)*'
 are_equal '(a | b)*' '(a* b)* a*'
 are_equal '(a | b)*' '(a* b*)*'
@@ -78,6 +83,14 @@ says 1 'refused node 1 LinkDiffers' <<< 'words proof; node a |- a by Step to 1; 
 says 0 'accepted inclusion nodes 2 links 0' <<< 'words proof; node a |- a by Step to 1; node 1 |- 1 | 0 by Step; end;'
 says 3 'unreadable syntax token 5 line 1 column 21' <<< 'words proof; node a by Step; end;'
 says 3 'unreadable byte offset 20 line 1 column 21' <<< 'words proof; node a + b |- a by Step; end;'
+
+has_no_meaning
+has_no_meaning check again
+has_no_meaning prove --depth
+has_no_meaning prove --depth 401
+has_no_meaning prove --depth deep
+echo '1 |- 1' | "$program" prove --depth 0 > "$room/line"
+[ "$?" = 6 ] && [ "$(cat "$room/line")" = 'not found depth 0' ] || fail "to depth 0: $(cat "$room/line")"
 
 for file in examples/words/*.inclusion; do
   "$program" prove < "$file" > "$room/proof"

@@ -13,7 +13,7 @@ pub mod Cases
 pub mod Offers
 pub mod Fairness
 pub mod Within
-pub mod LawFound
+pub mod Found
 pub mod Small
 pub mod Proofs
 pub mod Few

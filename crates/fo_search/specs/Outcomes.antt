@@ -15,6 +15,9 @@ use Rattle.fo_logic.specs.Verdicts.{file_graph, state_limit, IsCorrect, RootHold
 use Rattle.fo_logic.specs.Limits.{IsNodeWithin}
 use Rattle.fo_search.specs.Calculus.{calculus_of, search_system}
 use Rattle.fo_search.specs.Files.{proof_nodes}
+use Rattle.logic_search.specs.declared.Proved.{Proved}
+use Rattle.logic_search.specs.declared.Proved.TheVariants as searched
+use Rattle.fo_formula.specs.declared.theory.FoTheory.{FoTheory}
 use Rattle.fo_search.specs.declared.prover.FoProved.{FoProved}
 use Rattle.fo_search.specs.declared.prover.FoProved.TheVariants.{Found, NotFound, TooManyDerivations, TooManyStates}
 
@@ -58,3 +61,11 @@ IsProved problem _ = Unit {0}
 abbrev pub IsFirst : FoProblem → ℕ → FoProved → Type 0
 IsFirst problem depth (Found f) = FirstFound (search_for problem) 1 depth (reasons_of f)
 IsFirst problem depth _ = Unit {0}
+
+-- what a search came to, with its nodes as a file over the theory
+abbrev pub IsOver : FoTheory → Proved FoSequent FoReason → FoProved → Type 0
+IsOver t (searched.Found nodes) (Found f) = (f.theory ≡ t) × (f.nodes ≡ nodes.items)
+IsOver t searched.NotFound NotFound = Unit {0}
+IsOver t searched.TooManyDerivations TooManyDerivations = Unit {0}
+IsOver t searched.TooManyStates TooManyStates = Unit {0}
+IsOver t _ _ = ⊥

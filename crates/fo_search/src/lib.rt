@@ -3,7 +3,6 @@
 #![tactic(auto)]
 
 pub mod calculus;
-mod found;
 pub mod laws;
 mod logic;
 pub mod moves;

@@ -1,20 +1,19 @@
-// The search, depth by depth.
+// The search for a proof of a problem.
 ghost use Rattle.std.specs.Prelude.{◌≡◌, ◌<◌, ◌≤◌, [], IfOk};
 ghost use Rattle.derivations.specs.System.{search_of};
 ghost use Rattle.fo_search.specs.Occurring.{MayOccur};
 ghost use Rattle.derivations.specs.Derivations.{reasons_in};
 ghost use Rattle.fo_search.specs.Moves.{IsFirstOrder};
-ghost use Rattle.fo_search.specs.Outcomes.{search_for, outcome_of, IsFirst, IsProved};
+ghost use Rattle.fo_search.specs.Outcomes.{search_for, outcome_of, IsFirst, IsOver, IsProved};
 
-use crate::found::file_of;
 use crate::logic::FirstOrderSearch;
 use cyc_basics::limits::MOST_NODES;
 use cyc_basics::memory::OutOfMemory;
 use derivations::Derivation;
-use derivations::search::{Stop, search_depth};
 use fo_file::values::FoProblem;
-use fo_formula::{FoFile, FoReason, FoSequent};
+use fo_formula::{FoFile, FoNodes, FoReason, FoSequent, FoTheory};
 use fo_logic::FirstOrder;
+use logic_search::{Proved, search_proof};
 use std::alloc::Global;
 
 /// What comes of a search: a proof; nothing, within the depth; or that a limit was met, on partial derivations of one
@@ -45,6 +44,22 @@ fn begin(
     Derivation::new(alloc, logic, MOST_NODES as u32, root, goal)
 }
 
+/// What was found, as a file over the theory.
+fn file_of(theory: &FoTheory, proved: Proved<FoSequent, FoReason>) -> Result<FoProved, OutOfMemory>
+    ensures { IfOk result (IsOver theory.now proved) }
+{
+    match proved {
+        Proved::Found(nodes) => {
+            let theory = theory.clone()?;
+            let nodes = FoNodes::from_vec(nodes);
+            Ok(FoProved::Found(FoFile { theory, nodes }))
+        }
+        Proved::NotFound => Ok(FoProved::NotFound),
+        Proved::TooManyDerivations => Ok(FoProved::TooManyDerivations),
+        Proved::TooManyStates => Ok(FoProved::TooManyStates),
+    }
+}
+
 /// Searches for a proof of the problem's goal at depth 1, 2, .. up to `depth`. At each depth partial derivations are
 /// counted, the empty one first, and links that are not admitted; the search stops where `most` are counted.
 pub fn prove_fo(
@@ -60,16 +75,10 @@ pub fn prove_fo(
     ensures first { IfOk result (IsFirst problem.now depth) }
     ensures proved { IfOk result (IsProved problem.now) }
 {
-    for bound in 1..depth + 1 {
-        let mut moves = begin(alloc, problem)?;
-        match search_depth(alloc, &mut moves, bound, most)? {
-            None => {}
-            Some(Stop::TooManyDerivations) => return Ok(FoProved::TooManyDerivations),
-            Some(Stop::TooManyStates) => return Ok(FoProved::TooManyStates),
-            Some(Stop::Found) => {
-                return Ok(FoProved::Found(file_of(alloc, &problem.theory, moves)?));
-            }
-        }
-    }
-    Ok(FoProved::NotFound)
+    let logic = FirstOrder {
+        theory: &problem.theory,
+    };
+    let start = begin(alloc, problem)?;
+    let proved = search_proof(alloc, &logic, start, depth, most)?;
+    file_of(&problem.theory, proved)
 }

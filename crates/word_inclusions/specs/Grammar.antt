@@ -3,11 +3,12 @@
 use Rattle.std.specs.Prelude.{ℕ, zero, suc, Bool, ◌&&◌, ◌||◌, nat_le, if◌then◌else◌, List, [], ◌∷◌, length, codes, Ok}
 use Rattle.std.specs.Prelude.{Err}
 use Rattle.cyc_lex.specs.Word.{Word}
-use Rattle.cyc_grammar.specs.Syntax.{Reading, ◌>>=◌, Syntax, read_class, read_many, is_one, begins, never}
-use Rattle.cyc_grammar.specs.Classes.{symbol, keyword, name, number, the_end}
-use Rattle.logics.specs.declared.node.ProofNode.{ProofNode}
-use Rattle.word_inclusions.specs.declared.inclusion.Reason.{Reason}
-use Rattle.word_inclusions.specs.declared.inclusion.Reason.TheVariants.{Step, Link}
+use Rattle.cyc_grammar.specs.Syntax.{Reading, ◌>>=◌, read_class, is_one, begins}
+use Rattle.cyc_grammar.specs.Classes.{symbol, keyword, name, number}
+use Rattle.rule_logics.specs.Text.{TextValue}
+use Rattle.word_inclusions.specs.declared.logic.WordRule.{WordRule}
+use Rattle.word_inclusions.specs.declared.logic.WordRule.TheVariants.{Step}
+use Rattle.word_inclusions.specs.declared.logic.WordFault.{WordFault}
 use Rattle.word_inclusions.specs.Expressions.{Expression, Zero, One, Letter, Sum, Product, Star, Sides, sides}
 use Rattle.word_inclusions.specs.declared.texts.expressions.Level.{Level}
 use Rattle.word_inclusions.specs.declared.texts.expressions.Level.TheVariants as level
@@ -70,59 +71,16 @@ abbrev pub read_inclusion : List Word → Reading Sides
 read_inclusion ts =
     read_any ts >>= λ e. read_class (symbol (codes "|-")) e.1 >>= λ x. read_any x.1 >>= λ f. Ok (sides e.0 f.0, f.1)
 
--- ---- proofs
+abbrev pub read_rule : List Word → Reading WordRule
+read_rule ts = read_class (keyword (codes "Step")) ts >>= λ x. Ok (Step, x.1)
 
-abbrev pub read_reason : List Word → Reading Reason
-read_reason ts =
-    if begins (is_one (keyword (codes "Link"))) ts then
-    (read_class (keyword (codes "Link")) ts >>= λ x. read_class number x.1 >>= λ n. Ok (Link n.0, n.1))
-    else (read_class (keyword (codes "Step")) ts >>= λ x. Ok (Step, x.1))
-
--- no number, or after `to` one or two
-abbrev pub read_numbers : List Word → Reading (List ℕ)
-read_numbers ts =
-    if begins (is_one (keyword (codes "to"))) ts then (
-    read_class (keyword (codes "to")) ts >>= λ x. read_class number x.1 >>= λ m. (
-    if begins (is_one number) m.1 then (read_class number m.1 >>= λ n. Ok (m.0 ∷ n.0 ∷ [], n.1)) else Ok
-    (m.0 ∷ [], m.1)))
-    else Ok ([], ts)
-
-abbrev pub FileNode : Type 0
-FileNode = ProofNode Sides Reason
-
-abbrev pub read_node : List Word → Reading FileNode
-read_node ts =
-    read_class (keyword (codes "node")) ts >>= λ a. read_inclusion a.1 >>= λ s.
-    read_class (keyword (codes "by")) s.1 >>= λ b. read_reason b.1 >>= λ r.
-    read_numbers r.1 >>= λ u. read_class (symbol (codes ";")) u.1 >>= λ c.
-    Ok (record { judgement = s.0; reason = r.0; premises = u.0 }, c.1)
-
--- a node, of whose grammar only the reading is used
-abbrev pub node : Syntax FileNode
-node = record { words = λ n. []; read = read_node; more = λ n. never; fits = λ n. Unit {0} }
-
--- whether a node begins here
-abbrev pub node_word : Word → Bool
-node_word = is_one (keyword (codes "node"))
-
-abbrev pub read_nodes : List Word → Reading (List FileNode)
-read_nodes ts = read_many node_word node (length ts) ts
-
-abbrev pub read_file : List Word → Reading (List FileNode)
-read_file ts =
-    read_class (keyword (codes "words")) ts >>= λ a. read_class (keyword (codes "proof")) a.1 >>= λ b.
-    read_class (symbol (codes ";")) b.1 >>= λ c.
-    read_nodes c.1 >>= λ ns. read_class (keyword (codes "end")) ns.1 >>= λ d.
-    read_class (symbol (codes ";")) d.1 >>= λ e. Ok (ns.0, e.1)
-
--- ---- whole texts
-
--- to the end of the text
-abbrev pub ended : {A : Type 0} → Reading A → Reading A
-ended r = r >>= λ x. read_class the_end x.1 >>= λ e. Ok (x.0, e.1)
-
-abbrev pub read_problem : List Word → Reading Sides
-read_problem ts = ended (read_inclusion ts)
-
-abbrev pub read_proof : List Word → Reading (List FileNode)
-read_proof ts = ended (read_file ts)
+-- the texts; a step leaves at most two premises
+abbrev pub word_text : TextValue Sides WordRule WordFault
+word_text = record {
+  title = codes "words";
+  kind = codes "inclusion";
+  judgement = read_inclusion;
+  rule = read_rule;
+  more = 1;
+  fault = λ f. codes "NoEmptyWord";
+}

@@ -1,13 +1,8 @@
 pub mod Expressions
-pub mod Codes
 pub mod Language
 pub mod Inclusions
 pub mod Stages
-pub mod Places
 pub mod Derivatives
-pub mod LogicLaws
-pub mod Searches
+pub mod Laws
 pub mod Grammar
-pub mod Reading
-pub mod Answers
 pub mod Tasks

@@ -1,7 +1,7 @@
 // Regular expressions.
 ghost use Rattle.std.specs.Prelude.{◌≡◌, IfOk};
 ghost use Rattle.word_inclusions.specs.Expressions as expressions;
-ghost use Rattle.word_inclusions.specs.Expressions.{expression_of, same, nullable};
+ghost use Rattle.word_inclusions.specs.Expressions.{expression_of, same, nullable, is_star, is_star_at};
 
 use cyc_basics::memory::OutOfMemory;
 use std::alloc::Global;
@@ -77,6 +77,26 @@ impl Regex {
             Regex::One | Regex::Star(_) => true,
             Regex::Sum(e, f) => e.is_nullable() || f.is_nullable(),
             Regex::Product(e, f) => e.is_nullable() && f.is_nullable(),
+        }
+    }
+    /// Whether it is a repetition.
+    fn is_star(&self) -> bool
+        ensures { result ≡ is_star (expression_of self.now) }
+    {
+        match self {
+            Regex::Star(_) => true,
+            _ => false,
+        }
+    }
+
+    /// Whether the factor at this place is a repetition.
+    pub fn is_star_at(&self, place: u8) -> bool
+        ensures { result ≡ is_star_at (expression_of self.now) place }
+    {
+        match self {
+            Regex::Product(e, _) if place == 0 => e.is_star(),
+            Regex::Product(_, f) => f.is_star_at(place - 1),
+            _ => place == 0 && self.is_star(),
         }
     }
 }

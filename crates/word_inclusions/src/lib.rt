@@ -7,13 +7,10 @@ mod derivative;
 mod expression;
 mod inclusion;
 mod logic;
-mod places;
-mod search;
 mod step;
 pub mod texts;
 
 pub use cyc_basics::memory::OutOfMemory;
 pub use expression::Regex;
-pub use inclusion::{Inclusion, Reason, WordFault};
-pub use logic::WordInclusions;
-pub use search::{Proved, prove};
+pub use inclusion::Inclusion;
+pub use logic::{WordFault, WordInclusions, WordRule};

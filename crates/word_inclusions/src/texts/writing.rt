@@ -1,15 +1,8 @@
-// Writing proofs. A text is read and checked again before it is given, so no clause here says what it spells.
+// Writing regular expressions.
+use crate::Regex;
 use crate::texts::expressions::Level;
-use crate::texts::reading::WordNode;
-use crate::{Inclusion, Reason, Regex};
-use cyc_basics::memory::OutOfMemory;
-use itoa::Buffer;
-use std::alloc::Global;
-
-fn put(text: &[u8], out: &mut Vec<u8>) -> Result<(), OutOfMemory> {
-    out.extend_from_slice(text)?;
-    Ok(())
-}
+use rule_logics::OutOfMemory;
+use rule_logics::texts::put;
 
 /// Whether an expression stands in brackets where one of this level is wanted.
 fn has_brackets(e: &Regex, level: Level) -> bool {
@@ -28,8 +21,9 @@ fn is_atom(e: &Regex) -> bool {
     }
 }
 
+/// Writes an expression where one of this level is wanted.
 #[cycle(writing)]
-fn write_expression(e: &Regex, level: Level, out: &mut Vec<u8>) -> Result<(), OutOfMemory> {
+pub fn write_expression(e: &Regex, level: Level, out: &mut Vec<u8>) -> Result<(), OutOfMemory> {
     if has_brackets(e, level) {
         return write_bracket(e, out);
     }
@@ -68,45 +62,4 @@ fn write_parts(e: &Regex, out: &mut Vec<u8>) -> Result<(), OutOfMemory> {
             put(b"*", out)
         }
     }
-}
-
-fn write_number(number: u32, out: &mut Vec<u8>) -> Result<(), OutOfMemory> {
-    let mut buffer = Buffer::new();
-    put(b" ", out)?;
-    put(buffer.format(number).as_bytes(), out)
-}
-
-fn write_inclusion(inclusion: &Inclusion, out: &mut Vec<u8>) -> Result<(), OutOfMemory> {
-    write_expression(inclusion.left(), Level::Sum, out)?;
-    put(b" |- ", out)?;
-    write_expression(inclusion.right(), Level::Sum, out)
-}
-
-fn write_reason(node: &WordNode, out: &mut Vec<u8>) -> Result<(), OutOfMemory> {
-    let Reason::Link(target) = node.reason else {
-        put(b" by Step", out)?;
-        if !node.premises.as_slice().is_empty() {
-            put(b" to", out)?;
-        }
-        for number in node.premises.as_slice() {
-            write_number(*number, out)?;
-        }
-        return Ok(());
-    };
-    put(b" by Link", out)?;
-    write_number(target, out)
-}
-
-/// The text of a proof.
-pub fn proof_text(alloc: Global, nodes: &[WordNode]) -> Result<Vec<u8>, OutOfMemory> {
-    let mut out = Vec::new(alloc);
-    put(b"words proof;\n", &mut out)?;
-    for node in nodes {
-        put(b"node ", &mut out)?;
-        write_inclusion(&node.judgement, &mut out)?;
-        write_reason(node, &mut out)?;
-        put(b";\n", &mut out)?;
-    }
-    put(b"end;\n", &mut out)?;
-    Ok(out)
 }

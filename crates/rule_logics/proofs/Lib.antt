@@ -1,0 +1,4 @@
+pub mod Loops
+pub mod Suits
+pub mod Answered
+pub mod Succeeding

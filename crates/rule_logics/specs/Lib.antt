@@ -1,0 +1,12 @@
+pub mod Rules
+pub mod Logic
+pub mod Lists
+pub mod Laws
+pub mod Searches
+pub mod Moved
+pub mod Trees
+pub mod Text
+pub mod Grammar
+pub mod Reading
+pub mod Answers
+pub mod Tasks

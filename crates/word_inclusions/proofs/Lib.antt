@@ -1,4 +1,0 @@
-pub mod Past
-pub mod Found
-pub mod Answered
-pub mod Succeeding
