@@ -52,7 +52,7 @@ OTHER = [
     (program, ["fo", "--depth", "2"], EVEN + ".foproblem", 6), (program, ["fo-check"], "examples/first-order/copied-for-ever.fo", 1),
     (program, ["help"], None, 2), (program, [], None, 2), (checker, [], PROBLEM, 3), (checker, ["x"], None, 2),
     (solver, [], "examples/acyclic-segments.problem", 1), (solver, ["--effort", "1"], "examples/endless-choice.problem", 1),
-    (solver, ["--effort", "1"], "examples/allocation.problem", 6), (solver, [], PROOF, 3), (solver, ["x"], None, 2), (draw, [], PROBLEM, 3), (draw, ["x"], None, 2),
+    (solver, ["--effort", "1"], ".ci/solves/unknown/walk-and-grow.problem", 6), (solver, [], PROOF, 3), (solver, ["x"], None, 2), (draw, [], PROBLEM, 3), (draw, ["x"], None, 2),
 ]
 
 LINES = {program: USAGE, checker: b"usage: check\n", solver: b"usage: solve [--effort N]\n", draw: b"usage: draw [--fold]\n"}

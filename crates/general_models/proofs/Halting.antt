@@ -1,4 +1,4 @@
--- A run that faults or comes back excludes that the program halts.
+-- A run that faults or comes back, perhaps with more, excludes that the program halts.
 use Rattle.std.proofs.Common.{◌≡◌, ℕ, zero, suc, ◌+◌, ◌<◌, ◌≤◌, inl, inr, List, [], ◌∷◌, length, Option, Some, None}
 use Rattle.std.proofs.Common.{refl, sym, ap, subst, ◌∙◌, arith}
 use Rattle.std.specs.Prelude.{◌↔◌, slice_get}
@@ -11,19 +11,22 @@ use Rattle.heap_formula.specs.Definitions.{Definition}
 use Rattle.heap_formula.specs.Symbolic.{SymbolicHeap}
 use Rattle.heap_formula.specs.Values.{Stack}
 use Rattle.heap_formula.specs.Meaning.{Satisfies}
-use Rattle.heap_formula.specs.Programs.{Config as State, Goes, Faults, MayPick, Halts, greatest, command_at, start_at}
+use Rattle.heap_formula.specs.Programs.{Config as State, Faults, MayPick, Halts, greatest, command_at, start_at}
 use Rattle.heap_formula.specs.Programs.{TerminationHolds}
 use Rattle.goto_lang.specs.Steps.{Leads, IsSuccessor}
 use Rattle.goto_lang.proofs.Moves.{goes, leads_same, one_command}
 use Rattle.general_models.specs.declared.runs.picks.Pick.{Pick}
 use Rattle.general_models.specs.declared.runs.refuting.Ending.{Ending}
-use Rattle.general_models.specs.declared.runs.refuting.Ending.TheVariants.{FaultAfter, Repeat}
+use Rattle.general_models.specs.declared.runs.refuting.Ending.TheVariants.{FaultAfter, Repeat, Grow}
 use Rattle.general_models.specs.declared.runs.picks.Pick.TheVariants.{Cell}
 use Rattle.general_models.specs.Picks.{address_of, fields_of, picks_of, pick_most, headroom_of}
 use Rattle.heap_formula.proofs.AllMembers.{each_at}
 use Rattle.heap_formula.proofs.Greatest.{each_below}
 use Rattle.general_models.specs.Runs.{PickedStep, PickedRun}
+use Rattle.general_models.specs.Growing.{FreshRun, IsPaired}
 use Rattle.general_models.specs.Refuting.{IsRefuting}
+use Rattle.general_models.proofs.Chains.{Chain, halts_chain}
+use Rattle.general_models.proofs.Growing.{FreshStep, FreshChain, never_grows}
 
 pub picked_goes : (lines : List Command) (w : ℕ) (pick : Option Pick) (c d : State) → PickedStep lines w pick c d
     → IsSuccessor lines w c d
@@ -59,31 +62,11 @@ named_allowed picks i k a vs c at =
 
 -- ---- n steps of the machine
 
-abbrev Chain : List Command → ℕ → ℕ → State → State → Type 0
-Chain lines w zero c d = d ≡ c
-Chain lines w (suc n) c d = (m : State) × Chain lines w n c m × IsSuccessor lines w m d
-
 run_chain : (lines : List Command) (w : ℕ) (picks : List Pick) (n : ℕ) (c : State) (k : ℕ) (d : State)
     → PickedRun lines w picks n c k d → Chain lines w n c d
 run_chain lines w picks zero c k d r = r.1
 run_chain lines w picks (suc n) c k d r =
     (r.1, run_chain lines w picks n c r.0 r.1 r.2, picked_goes lines w (slice_get picks r.0) r.1 d r.3)
-
-halts_step : (lines : List Command) (w m : ℕ) (c d : State) → IsSuccessor lines w c d → Halts lines w m c
-    → (n : ℕ) × (m ≡ n + 1) × Halts lines w n d
-halts_step lines w zero c d s h = absurd (subst (λ x. Goes x w c d) (one_command s.0 StopCommand s.1 h) s.2)
-halts_step lines w (suc m) c d s (inl h) = absurd (subst (λ x. Goes x w c d) (one_command s.0 StopCommand s.1 h) s.2)
-halts_step lines w (suc m) c d s (inr h) =
-    (m, omega arith, h.3 d (subst (λ x. Goes x w c d) (one_command s.0 h.0 s.1 h.1) s.2))
-
-halts_chain : (lines : List Command) (w n m : ℕ) (c d : State) → Chain lines w n c d → Halts lines w m c
-    → (k : ℕ) × (m ≡ k + n) × Halts lines w k d
-halts_chain lines w zero m c d r h = (m, omega arith, subst (Halts lines w m) (sym r) h)
-halts_chain lines w (suc n) m c d r h =
-    let a = halts_chain lines w n m c r.0 r.1 h in
-    let b = halts_step lines w a.0 r.0 d r.2 a.2 in
-    let e : m ≡ a.0 + n = a.1 in
-    let f : a.0 ≡ b.0 + 1 = b.1 in (b.0, omega arith, b.2)
 
 no_circle : (lines : List Command) (w n : ℕ) (c : State) → 0 < n → Chain lines w n c c → (bound m : ℕ) → m < bound
     → Halts lines w m c → ⊥
@@ -139,6 +122,39 @@ split lines w picks (suc t) s c k d l r = elim (cases_lt t s) [
       (suc x.0, omega arith, x.2, x.3, x.4, (r.1, x.5, picked_goes lines w (slice_get picks r.0) r.1 d r.3))
 ]
 
+-- ---- steps whose new cells are fresh
+
+pub forget : (lines : List Command) (w : ℕ) (picks : List Pick) (s n : ℕ) (c : State) (k : ℕ) (d : State)
+    → FreshRun lines w picks s n c k d → PickedRun lines w picks n c k d
+forget lines w picks s zero c k d r = r
+forget lines w picks s (suc n) c k d r = (r.0, r.1, forget lines w picks s n c r.0 r.1 r.2, r.3, r.5)
+
+fresh_part : (lines : List Command) (w : ℕ) (picks : List Pick) (t s : ℕ) (c : State) (j k : ℕ) (d e : State) → s ≤ t
+    → PickedRun lines w picks s c j d → FreshRun lines w picks s t c k e → (n : ℕ) × (t ≡ s + n)
+    × FreshChain lines w n d e
+fresh_part lines w picks zero s c j k d e le p r =
+    let z : 0 ≡ s = omega arith in
+    let f = subst (λ n. PickedRun lines w picks n c k e) z (forget lines w picks s zero c k e r) in
+    (0, omega arith, (run_same lines w picks s c k j e d f p).1)
+fresh_part lines w picks (suc t) s c j k d e le p r = elim (cases_lt t s) [
+  | inl above ↦
+      let z : suc t ≡ s = omega arith in
+      let f = subst (λ n. PickedRun lines w picks n c k e) z (forget lines w picks s (suc t) c k e r) in
+      (0, omega arith, (run_same lines w picks s c k j e d f p).1)
+  | inr below ↦
+      let x = fresh_part lines w picks t s c j r.0 d r.1 below p r.2 in
+      let same : t ≡ s + x.0 = x.1 in
+      let step : FreshStep lines w r.1 e = record {
+        command = r.3.command;
+        address = address_of (slice_get picks r.0);
+        fields = fields_of (slice_get picks r.0);
+        at = r.3.at;
+        may = r.3.may;
+        fresh = r.4 below;
+        leads = r.3.leads;
+      } in (suc x.0, omega arith, (r.1, x.2, step))
+]
+
 -- ---- the laws
 
 pub never_halts : (lines : List Command) (w : ℕ) (picks : List Pick) (c : State) (ending : Ending)
@@ -154,6 +170,12 @@ never_halts lines w picks c (Repeat s t) r n h =
     let e : t ≡ s + x.0 = x.1 in
     let a = halts_chain lines w s n c r.3 (run_chain lines w picks s c r.1 r.3 r.4) h in
     no_circle lines w x.0 r.3 (omega arith) circle (suc a.0) a.0 (omega arith) a.2
+never_halts lines w picks c (Grow g) r n h =
+    let lt : g.first < g.again = r.0 in
+    let x = fresh_part lines w picks g.again g.first c r.1 r.2 r.3 r.4 (omega arith) r.5 r.6 in
+    let same : g.again ≡ g.first + x.0 = x.1 in
+    let a = halts_chain lines w g.first n c r.3 (run_chain lines w picks g.first c r.1 r.3 r.5) h in
+    never_grows lines w r.3 x.0 r.4 (omega arith) x.2 (IsPaired g.renaming) r.7 a.0 a.2
 
 pub no_termination : (ds : List Definition) (lines : List Command) (i : ℕ) (a : SymbolicHeap) (s : Stack)
     (h part : Cells) (w : ℕ) (picks : List Pick) (ending : Ending) → 0 < w → IsPart part h → Satisfies ds s part a

@@ -9,7 +9,11 @@ pub mod SomeOf
 pub mod Leaving
 pub mod Deriving
 pub mod Sound
+pub mod Chains
+pub mod Likeness
+pub mod Growing
 pub mod Halting
 pub mod RunEnds
 pub mod SameStates
 pub mod Moves
+pub mod AlikeTests

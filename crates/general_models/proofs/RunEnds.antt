@@ -8,7 +8,7 @@ use Rattle.heap_formula.specs.declared.commands.Command.TheVariants.{Assign, Loa
 use Rattle.heap_formula.specs.declared.commands.Command.TheVariants.{Goto, Stop as StopCommand}
 use Rattle.heap_formula.specs.Programs.{Config as State, Faults, command_at, greatest}
 use Rattle.goto_lang.specs.declared.configs.Config.{Config}
-use Rattle.goto_lang.specs.States.{state_of}
+use Rattle.goto_lang.specs.States.{state_of, IsStateOf}
 use Rattle.goto_lang.specs.Steps.{MayTake, Leads}
 use Rattle.goto_lang.proofs.Moves.{leads_well, one_command, same_config}
 use Rattle.general_models.specs.declared.runs.picks.Pick.{Pick}
@@ -16,11 +16,16 @@ use Rattle.general_models.specs.declared.runs.running.Cause.{Cause}
 use Rattle.general_models.specs.declared.runs.running.Cause.TheVariants.{Stop, Fault, NoPick, BadPick, TooGreat}
 use Rattle.general_models.specs.declared.runs.running.RunEnd.{RunEnd}
 use Rattle.general_models.specs.declared.runs.running.RunEnd.TheVariants.{Ends, Reached}
-use Rattle.general_models.specs.declared.runs.refuting.Ending.TheVariants.{FaultAfter, Repeat}
+use Rattle.general_models.specs.declared.runs.refuting.Ending.TheVariants.{FaultAfter, Repeat, Grow}
 use Rattle.general_models.specs.Refuting.{IsRefuting}
-use Rattle.general_models.specs.Picks.{suits, address_of, fields_of}
+use Rattle.general_models.specs.Picks.{suits, address_of, fields_of, picks_of}
 use Rattle.general_models.specs.Runs.{HasRoom, PickedStep, PickedRun, IsCause, IsRunEnd}
-use Rattle.general_models.proofs.Halting.{run_same}
+use Rattle.general_models.specs.Moves.{IsMove}
+use Rattle.general_models.specs.Growing.{Alike, TakesFresh, FreshRun, IsPaired}
+use Rattle.general_models.specs.declared.runs.growth.Growth.{Growth}
+use Rattle.general_models.specs.declared.runs.running.Move.{Move}
+use Rattle.general_models.specs.declared.runs.running.Move.TheVariants.{To as MoveTo}
+use Rattle.general_models.proofs.Halting.{run_same, forget}
 
 module _ (lines : List Command) (w : ℕ) (pick : Option Pick) (d : State) where
   -- a command that faults takes no pick
@@ -179,4 +184,86 @@ repeat_exact lines w picks c s t one other b lt p q i = (
   λ y. (lt, p.0, q.0, state_of one, p.1, subst (PickedRun lines w picks t c q.0) (sym (i.0 y)) q.1),
   λ r. i.1 ((run_same lines w picks s c p.0 r.1 (state_of one) r.3 p.1 r.4).1
       ∙ (run_same lines w picks t c r.2 q.0 r.3 (state_of other) r.5 q.1).1),
+)
+
+-- ---- runs whose new cells are fresh
+
+module _ (lines : List Command) (w : ℕ) (picks : List Pick) (s : ℕ) (c : State) where
+  -- the state and the step after so many of them
+  step_at : (n t k : ℕ) (e : State) → n < t → FreshRun lines w picks s t c k e → (j : ℕ) × (m : State) × (d : State)
+      × FreshRun lines w picks s n c j m × (p : PickedStep lines w (slice_get picks j) m d)
+      × (s ≤ n → TakesFresh p.command (address_of (slice_get picks j)) (fields_of (slice_get picks j)) m)
+  step_at n zero k e lt r = absurd (omega arith)
+  step_at n (suc t) k e lt r = elim (cases_lt n t) [
+    | inl l ↦ step_at n t r.0 r.1 l r.2
+    | inr l ↦
+        let same : t ≡ n = omega arith in
+        (r.0, r.1, e, subst (λ i. FreshRun lines w picks s i c r.0 r.1) same r.2, r.3, (λ le. r.4 (omega arith)))
+  ]
+
+  fresh_same : (n : ℕ) (j k : ℕ) (d e : State) → FreshRun lines w picks s n c j d → FreshRun lines w picks s n c k e
+      → (j ≡ k) × (d ≡ e)
+  fresh_same n j k d e p q =
+      run_same lines w picks n c j k d e (forget lines w picks s n c j d p) (forget lines w picks s n c k e q)
+
+  pub fresh_stuck : (n t j k : ℕ) (d e : State) (cause : Cause) → n < t → FreshRun lines w picks s n c j d
+      → IsCause lines w (slice_get picks j) d cause → FreshRun lines w picks s t c k e → ⊥
+  fresh_stuck n t j k d e cause lt r h q =
+      let x = step_at n t k e lt q in
+      let same = fresh_same n j x.0 d x.1 r x.3 in
+      let h1 = subst (λ i. IsCause lines w (slice_get picks i) d cause) same.0 h in
+      let h2 = subst (λ m. IsCause lines w (slice_get picks x.0) m cause) same.1 h1 in
+      cause_stuck lines w (slice_get picks x.0) x.1 cause x.2 h2 x.4
+
+  pub not_fresh : (n t j k : ℕ) (d e : State) (command : Command) → n < t → FreshRun lines w picks s n c j d
+      → command_at lines d ≡ Some command
+      → ((s ≤ n → TakesFresh command (address_of (slice_get picks j)) (fields_of (slice_get picks j)) d) → ⊥)
+      → FreshRun lines w picks s t c k e → ⊥
+  not_fresh n t j k d e command lt r at never q =
+      let x = step_at n t k e lt q in
+      let same = fresh_same n j x.0 d x.1 r x.3 in
+      let at1 = subst (λ m. command_at lines m ≡ Some command) same.1 at in
+      let is : x.4.command ≡ command = one_command x.4.command command x.4.at at1 in
+      never (λ le.
+      let f1 = subst (λ y. TakesFresh y (address_of (slice_get picks x.0)) (fields_of (slice_get picks x.0)) x.1) is
+      (x.5 le) in
+      let f2 = subst (λ m. TakesFresh command (address_of (slice_get picks x.0)) (fields_of (slice_get picks x.0)) m)
+      (sym same.1) f1 in
+      subst (λ i. TakesFresh command (address_of (slice_get picks i)) (fields_of (slice_get picks i)) d)
+      (sym same.0) f2)
+
+  pub fresh_more : (n j : ℕ) (d : State) (command : Command) (taken : ℕ) (r : Move) (next : Config)
+      → FreshRun lines w picks s n c j d → command_at lines d ≡ Some command → taken ≡ picks_of command
+      → (s ≤ n → TakesFresh command (address_of (slice_get picks j)) (fields_of (slice_get picks j)) d)
+      → IsMove lines w (slice_get picks j) d r → r ≡ MoveTo next
+      → FreshRun lines w picks s (n + 1) c (j + taken) (state_of next) × IsStateOf lines (state_of next)
+  fresh_more n j d command taken r next run at te fresh h e =
+      let m : PickedStep lines w (slice_get picks j) d (state_of next)
+      × IsStateOf lines (state_of next) = subst (IsMove lines w (slice_get picks j) d) e h in
+      let same : command ≡ m.0.command = one_command command m.0.command at m.0.at in
+      let k : j + taken ≡ j + picks_of m.0.command = ap (λ i. j + i) (te ∙ ap picks_of same) in
+      let longer : FreshRun lines w picks s (suc n) c (j + taken) (state_of next) = (
+        j,
+        d,
+        run,
+        m.0,
+        (λ le. subst (λ y. TakesFresh y (address_of (slice_get picks j)) (fields_of (slice_get picks j)) d) same
+            (fresh le)),
+        k,
+      ) in
+      let f : suc n ≡ n + 1 = omega arith in
+      (subst (λ i. FreshRun lines w picks s i c (j + taken) (state_of next)) f longer, m.1)
+
+pub growth_exact : (lines : List Command) (w : ℕ) (picks : List Pick) (c : State) (g : Growth) (one other : Config)
+    (b : Bool) → g.first < g.again → (j : ℕ) × PickedRun lines w picks g.first c j (state_of one)
+    → (k : ℕ) × FreshRun lines w picks g.first g.again c k (state_of other)
+    → IsTrue b ↔ Alike (IsPaired g.renaming) (state_of one) (state_of other)
+    → IsTrue b ↔ IsRefuting lines w picks c (Grow g)
+growth_exact lines w picks c g one other b lt p q i = (
+  λ y. (lt, p.0, q.0, state_of one, state_of other, p.1, q.1, i.0 y),
+  λ r.
+      let same = run_same lines w picks g.first c r.1 p.0 r.3 (state_of one) r.5 p.1 in
+      let later = fresh_same lines w picks g.first c g.again r.2 q.0 r.4 (state_of other) r.6 q.1 in
+      i.1 (subst (λ e. Alike (IsPaired g.renaming) (state_of one) e) later.1
+      (subst (λ d. Alike (IsPaired g.renaming) d r.4) same.1 r.7)),
 )

@@ -3,7 +3,7 @@ use Rattle.std.specs.Prelude.{◌↔◌, IsTrue}
 use Rattle.std.proofs.lemmas.List.{drop_all}
 use Rattle.std.proofs.Common.{◌≡◌, ℕ, ◌+◌, ◌<◌, ◌≤◌, List, ◌∷◌, length, drop, get_or, Bool, true, false, ◌∙◌, inl, inr}
 use Rattle.std.proofs.Common.{sym, refl, subst}
-use Rattle.heap_formula.specs.Words.{OneOf}
+use Rattle.heap_formula.specs.Words.{Each, OneOf}
 use Rattle.cyc_basics.proofs.Places.{drop_read}
 
 module _ {X : Type 0} (P : X → Type 0) (xs : List X) (i : ℕ) (left : OneOf P xs ↔ OneOf P (drop i xs)) where
@@ -27,6 +27,15 @@ module _ {X : Type 0} (P : X → Type 0) (xs : List X) (i : ℕ) (left : OneOf P
   -- all were passed
   pub none : length xs ≤ i → OneOf P xs → ⊥
   none l o = subst (OneOf P) (drop_all i xs l) (left.0 o)
+
+-- ---- the same for what holds of each member
+
+pub each_passed : {X : Type 0} (P : X → Type 0) (xs : List X) (i : ℕ) → Each P xs ↔ Each P (drop i xs) → (x : X)
+    → i < length xs → x ≡ get_or xs i x → P x → Each P xs ↔ Each P (drop (i + 1) xs)
+each_passed P xs i left x lt is p = (
+  λ e. let f = subst (Each P) (drop_read xs i x lt is) (left.0 e) in f.1,
+  λ e. left.1 (subst (Each P) (sym (drop_read xs i x lt is)) (p, e)),
+)
 
 -- ---- answers that two tests give
 

@@ -13,6 +13,14 @@ pub struct Offer {
     pub deviations: u32,
 }
 
+/// Which addresses new cells take: first the least that stands nowhere in the state, and others too; or the one above
+/// all numbers of the state, with nil in all fields.
+#[derive(Clone, Copy)]
+pub enum Addresses {
+    Least,
+    Above,
+}
+
 /// The numbers but 0 that stand in a state, ascending, each once.
 pub fn values_in(alloc: Global, config: &Config) -> Result<Vec<u64>, OutOfMemory> {
     let mut values = Vec::new(alloc);
@@ -101,6 +109,17 @@ fn new_cells(alloc: Global, config: &Config, count: u8) -> Result<Vec<Offer>, Ou
     Ok(cells.offers)
 }
 
+/// A cell above all numbers of the state.
+fn cell_above(alloc: Global, config: &Config, count: u8) -> Result<Vec<Offer>, OutOfMemory> {
+    let mut cells = NewCells {
+        alloc,
+        count: count as usize,
+        offers: Vec::new(alloc),
+    };
+    cells.offer(config.greatest().saturating_add(1), 0, 0)?;
+    Ok(cells.offers)
+}
+
 fn of_pick(pick: Option<Pick>) -> Offer {
     Offer {
         pick,
@@ -109,9 +128,17 @@ fn of_pick(pick: Option<Pick>) -> Offer {
 }
 
 /// What a command may take in a state.
-pub fn offers(alloc: Global, config: &Config, command: Command) -> Result<Vec<Offer>, OutOfMemory> {
+pub fn offers(
+    alloc: Global,
+    config: &Config,
+    command: Command,
+    addresses: Addresses,
+) -> Result<Vec<Offer>, OutOfMemory> {
     match command {
-        Command::New(_, count) => new_cells(alloc, config, count),
+        Command::New(_, count) => match addresses {
+            Addresses::Least => new_cells(alloc, config, count),
+            Addresses::Above => cell_above(alloc, config, count),
+        },
         Command::IfAny(_) => {
             let jump = of_pick(Some(Pick::Jumps(true)));
             let next = of_pick(Some(Pick::Jumps(false)));

@@ -1,6 +1,8 @@
 // The search for a faulty run of a program.
+use crate::choosing::Addresses;
 use crate::exploring::Exploration;
 use crate::faulty_runs::{FaultyRun, Tail};
+use crate::growth::growing_run;
 use crate::repeats::repeat;
 use cyc_basics::memory::OutOfMemory;
 use goto_lang::{Cells, Config, Program, Stack};
@@ -14,6 +16,9 @@ const STATES: u32 = 300;
 
 /// The work that it takes to reach a state.
 const WORK_PER_STATE: u32 = 5;
+
+/// The most states that are reached in search of a run that comes back with more.
+const MOST_GROWING: usize = 1_200;
 
 /// The most parts of the picks of a run that are not the usual ones.
 const MOST_DEVIATIONS: u32 = 3;
@@ -52,20 +57,33 @@ impl<'a> Runs<'a> {
     }
 
     /// Runs from a model, with twice the states for each round of its age; and the rest of one that faults or comes
-    /// back.
+    /// back, perhaps with more.
     fn explore(
         &self,
         model: &Model,
         age: u32,
     ) -> Result<(Exploration<'a>, Option<Tail>), OutOfMemory> {
+        let (alloc, program) = (self.alloc, self.program);
         let first = self.first_state(model)?;
+        let again = first.clone()?;
         let deviations = age.min(MOST_DEVIATIONS);
-        let mut exploration = Exploration::new(self.alloc, self.program, first, deviations)?;
-        let fault = exploration.fault(doubled(STATES, age) as usize)?;
+        let states = doubled(STATES, age) as usize;
+        let mut exploration = Exploration::new(
+            alloc,
+            program,
+            first,
+            Addresses::Least,
+            deviations,
+        )?;
+        let fault = exploration.fault(states)?;
         if fault.is_some() {
             return Ok((exploration, fault));
         }
-        let tail = repeat(self.alloc, &exploration)?;
+        let tail = repeat(alloc, &exploration)?;
+        if tail.is_some() {
+            return Ok((exploration, tail));
+        }
+        let tail = growing_run(alloc, program, again, states.min(MOST_GROWING))?;
         Ok((exploration, tail))
     }
 
@@ -105,7 +123,7 @@ impl Inquiry for Runs<'_> {
 }
 
 /// Searches in so many rounds for a run from a state that satisfies the precondition, at this line, which faults or
-/// comes back to a state where it was. Each round does twice the work of the one before it.
+/// comes back to a state where it was, or to one like it, with more. Each round does twice the work of the one before it.
 pub fn faulty_run(
     alloc: Global,
     defs: &Defs,

@@ -1,5 +1,5 @@
 // The states that runs from one state reach.
-use crate::choosing::{Offer, offers};
+use crate::choosing::{Addresses, Offer, offers};
 use crate::faulty_runs::{Tail, fields_of, made_picks, number_of};
 use cyc_basics::memory::OutOfMemory;
 use general_models::runs::{Ending, Pick};
@@ -27,8 +27,8 @@ pub struct RunStep {
 /// it.
 #[derive(Drop)]
 pub struct Visit {
-    config: Config,
-    from: usize,
+    pub config: Config,
+    pub from: usize,
     pick: Option<Pick>,
     pub depth: u32,
     deviations: u32,
@@ -43,6 +43,7 @@ pub struct Exploration<'a> {
     program: &'a Program,
     keys: IndexSet<Vec<u64>>,
     pub visits: Vec<Visit>,
+    addresses: Addresses,
     deviations: u32,
     pub compared: Vec<(u64, u64)>,
     pub is_cut: bool,
@@ -75,6 +76,7 @@ impl<'a> Exploration<'a> {
         alloc: Global,
         program: &'a Program,
         first: Config,
+        addresses: Addresses,
         deviations: u32,
     ) -> Result<Exploration<'a>, OutOfMemory> {
         let mut keys = IndexSet::new(alloc);
@@ -92,6 +94,7 @@ impl<'a> Exploration<'a> {
             program,
             keys,
             visits: vec![in alloc; visit]?,
+            addresses,
             deviations,
             compared: Vec::new(alloc),
             is_cut: false,
@@ -207,7 +210,10 @@ impl<'a> Exploration<'a> {
 
     fn offers_at(&self, number: usize) -> Result<Vec<Offer>, OutOfMemory> {
         match self.visits.get(number) {
-            Some(visit) => offers(self.alloc, &visit.config, self.command(&visit.config)),
+            Some(visit) => {
+                let command = self.command(&visit.config);
+                offers(self.alloc, &visit.config, command, self.addresses)
+            }
             None => Ok(Vec::new(self.alloc)),
         }
     }

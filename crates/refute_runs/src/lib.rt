@@ -1,5 +1,6 @@
-//! A free search for runs of a program that fault or come back to a state where they were before. They begin in models
-//! of symbolic unfoldings of the precondition, and are made less general by pairs of values that the program compares.
+//! A free search for runs of a program that fault, come back to a state where they were before, or come back to one like
+//! it, with more. They begin in models of symbolic unfoldings of the precondition, and are made less general by pairs of
+//! values that the program compares.
 //! Nothing is promised of what is found.
 #![tactic(auto)]
 
@@ -7,6 +8,8 @@ mod choosing;
 mod claims;
 mod exploring;
 mod faulty_runs;
+mod growth;
+mod pairing;
 mod repeats;
 
 pub use claims::faulty_run;

@@ -8,6 +8,8 @@ use Rattle.std.proofs.lemmas.Bool.{and_left, ltb-true, leb-true, le-leb, lt-leb,
 use Rattle.heap_formula.specs.Words.{Each}
 use Rattle.heap_formula.specs.Cells.{Cells, cell_at, IsHeap}
 use Rattle.heap_formula.proofs.AllMembers.{each_imply, each_both}
+use Rattle.general_models.specs.declared.runs.growth.Growth.{Growth}
+use Rattle.general_models.specs.declared.runs.growth.ValuePair.{ValuePair}
 use Rattle.general_models.specs.declared.runs.picks.Pick.{Pick}
 use Rattle.general_models.specs.declared.runs.picks.Pick.TheVariants.{Cell as CellPicked, Jumps}
 use Rattle.cyc_lex.specs.declared.fault.What.TheVariants.{Arguments, Stack}
@@ -24,12 +26,14 @@ use Rattle.model_file.specs.Written.{cells_tree}
 use Rattle.model_file.proofs.Parts.{IsFine}
 use Rattle.model_file.proofs.SortedCells.{cell_found, cells_right}
 use Rattle.run_file.specs.declared.tree.Outcome.{Outcome}
-use Rattle.run_file.specs.declared.tree.Outcome.TheVariants.{Faults, Repeats}
+use Rattle.run_file.specs.declared.tree.Outcome.TheVariants.{Faults, Repeats, Grows}
 use Rattle.run_file.specs.Grammar.{pick, some_pick, picks1, picks, then_step, faulting, repeating, outcome}
+use Rattle.run_file.specs.Grammar.{value_pair, some_pair, value_pairs, growing}
 use Rattle.run_file.specs.Spans.{pick_span}
 use Rattle.run_file.specs.Flaws.{pick_flaw, picks_flaw}
 use Rattle.run_file.specs.Limits.{is_short_number, are_short_numbers, are_fields, is_short_cell, is_short_entry}
-use Rattle.run_file.specs.Limits.{is_short_pick, is_short_outcome, is_short_stack, is_short_heap}
+use Rattle.run_file.specs.Limits.{is_short_pick, is_short_outcome, is_short_stack, is_short_heap, is_short_pair}
+use Rattle.run_file.specs.Limits.{are_short_pairs, is_short_growth}
 use Rattle.run_file.specs.Places.{is_short_place}
 
 -- ---- numbers
@@ -181,10 +185,29 @@ both_short m n e =
     let both = and-parts (is_short_number m) (is_short_number n) e in
     (short_number m both.0, short_number n both.1)
 
+pair_fits : (p : ValuePair) → is_short_pair p ≡ true → value_pair.fits p
+unfolding value_pair
+pair_fits p e = (tt, both_short p.before p.after e)
+
+pairs_fit : (ps : List ValuePair) → are_short_pairs ps ≡ true → value_pairs.fits ps
+unfolding value_pairs
+pairs_fit ps e =
+    let both = and-parts (nat_lt 0 (length ps)) (list_all is_short_pair ps) e in
+    subst (λ (xs : List ValuePair). value_pairs.fits xs) (map_same ps)
+    (listed_fits value_pair (λ (x : ValuePair). x) some_pair comma closing ps (ltb-true 0 (length ps) both.0)
+    (each_passes is_short_pair value_pair.fits pair_fits ps both.1))
+
+growth_fits : (g : Growth) → is_short_growth g ≡ true → growing.fits g
+unfolding growing then_step
+growth_fits g e =
+    let both = and-parts (is_short_number g.first && is_short_number g.again) (are_short_pairs g.renaming) e in
+    (tt, (both_short g.first g.again both.0, pairs_fit g.renaming both.1))
+
 pub outcome_fits : (o : Outcome) → is_short_outcome o ≡ true → outcome.fits o
 unfolding outcome faulting repeating then_step
 outcome_fits (Faults l n) e = (tt, both_short l n e)
 outcome_fits (Repeats m n) e = (tt, both_short m n e)
+outcome_fits (Grows g) e = (tt, growth_fits g e)
 
 -- ---- the test of each address is that of its entry
 

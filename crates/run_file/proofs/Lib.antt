@@ -1,7 +1,7 @@
 pub mod RunLaws
 pub mod RunEnds
 mod RunWriting
-mod SeenNumbers
+mod SeenItems
 mod SpanLaws
 mod WithinSpans
 mod Parts

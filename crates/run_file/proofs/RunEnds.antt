@@ -25,7 +25,9 @@ use Rattle.model_file.specs.Grammar.{cells1, cells, state}
 use Rattle.run_file.specs.Grammar.{run_word, picks_word, jump_word, next_word, faults_word, repeats_word, step_word}
 use Rattle.run_file.specs.Grammar.{state_claimed, claim, to_pick, from_pick, pick, some_pick, picks1, picks, then_step}
 use Rattle.run_file.specs.Grammar.{faulting, repeating, to_outcome, from_outcome, outcome, ending, course, Parts}
-use Rattle.run_file.specs.Grammar.{to_run, from_run, body, run}
+use Rattle.run_file.specs.Grammar.{to_run, from_run, body, run, grows_word, with_word, to_pair, from_pair, value_pair}
+use Rattle.run_file.specs.Grammar.{some_pair, value_pairs, to_growth, from_growth, growing, Ends}
+use Rattle.general_models.specs.declared.runs.growth.ValuePair.{ValuePair}
 
 run-word : is_lexeme (run_word.word tt) ≡ true
 run-word = letters-name (codes "run") refl
@@ -53,6 +55,12 @@ repeats-word = letters-name (codes "repeats") refl
 
 step-word : is_lexeme (step_word.word tt) ≡ true
 step-word = letters-name (codes "step") refl
+
+grows-word : is_lexeme (grows_word.word tt) ≡ true
+grows-word = letters-name (codes "grows") refl
+
+with-word : is_lexeme (with_word.word tt) ≡ true
+with-word = letters-name (codes "with") refl
 
 line-word : is_lexeme (line_word.word tt) ≡ true
 line-word = letters-name (codes "line") refl
@@ -112,13 +120,28 @@ then_step-inner : Inner then_step
 unfolding then_step
 then_step-inner = seq-inner (one number) _ number-inner (after-inner step_word (one number) step-word number-inner)
 
+value_pairs-inner : Inner value_pairs
+unfolding value_pairs value_pair
+value_pairs-inner = listed-inner some_pair comma closing value_pair syms.comma_word syms.closing_word
+    (shaped-inner {A = ℕ × ℕ} to_pair from_pair Any _ (seq-inner (one number) (one number) number-inner number-inner))
+
+growing-inner : Inner growing
+unfolding growing
+growing-inner =
+    shaped-inner {A = (ℕ × ℕ) × List ValuePair} to_growth from_growth Any _
+    (after-inner grows_word _ grows-word (after-inner step_word _ step-word
+    (seq-inner then_step _ then_step-inner (after-inner with_word _ with-word
+    (after-inner opening value_pairs syms.opening_word value_pairs-inner)))))
+
 outcome-inner : Inner outcome
 unfolding outcome faulting repeating
 outcome-inner =
-    shaped-inner {A = (ℕ × ℕ) ⊎ (ℕ × ℕ)} to_outcome from_outcome Any _
+    shaped-inner {A = Ends} to_outcome from_outcome Any _
     (alt-inner (is_one faults_word) _ _ (after-inner faults_word _ faults-word
     (after-inner line_word then_step line-word then_step-inner))
-    (after-inner repeats_word _ repeats-word (after-inner step_word then_step step-word then_step-inner)))
+    (alt-inner (is_one repeats_word) _ _
+    (after-inner repeats_word _ repeats-word (after-inner step_word then_step step-word then_step-inner))
+    growing-inner))
 
 ending-inner : Inner ending
 unfolding ending

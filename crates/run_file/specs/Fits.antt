@@ -17,9 +17,10 @@ use Rattle.proof_file.specs.Fits.{file-fit}
 use Rattle.model_file.specs.Trees.{Cell, Model}
 use Rattle.model_file.specs.Grammar as models
 use Rattle.model_file.specs.Fits.{model-fit}
-use Rattle.run_file.specs.declared.tree.Outcome.TheVariants.{Faults, Repeats}
+use Rattle.run_file.specs.declared.tree.Outcome.TheVariants.{Faults, Repeats, Grows}
 use Rattle.run_file.specs.Grammar.{state_claimed, claim, claim_of, pick, some_pick, picks1, picks, then_step, faulting}
-use Rattle.run_file.specs.Grammar.{repeating, outcome, ending, course, body, run}
+use Rattle.run_file.specs.Grammar.{repeating, value_pair, some_pair, value_pairs, growing, outcome, ending, course}
+use Rattle.run_file.specs.Grammar.{body, run}
 
 -- ---- the claim, as that of a proof file with one node
 
@@ -76,10 +77,20 @@ unfolding picks picks1
 picks-fit [] = ×_prop Unit-prop Unit-prop
 picks-fit (p ∷ ps) = ×_prop Unit-prop (listed-fit some_pick comma semicolon pick pick-fit (p ∷ ps))
 
+value_pair-fit : HasOneFit value_pair
+unfolding value_pair
+value_pair-fit p = ×_prop Unit-prop (×_prop le_prop le_prop)
+
+growing-fit : HasOneFit growing
+unfolding growing then_step value_pairs
+growing-fit g = ×_prop Unit-prop (×_prop (×_prop le_prop le_prop)
+    (listed-fit some_pair comma closing value_pair value_pair-fit g.renaming))
+
 outcome-fit : HasOneFit outcome
 unfolding outcome faulting repeating then_step
 outcome-fit (Faults l n) = ×_prop Unit-prop (×_prop le_prop le_prop)
 outcome-fit (Repeats m n) = ×_prop Unit-prop (×_prop le_prop le_prop)
+outcome-fit (Grows g) = ×_prop Unit-prop (growing-fit g)
 
 -- ---- run files
 

@@ -3,9 +3,11 @@ use Rattle.std.specs.Prelude.{ℕ, true, false, List, ◌⊎◌, codes}
 use Rattle.std.proofs.Common.{inl, inr}
 use Rattle.cyc_grammar.specs.Syntax.{Syntax, Class, one, seq, alt, shaped, after, before, is_one, or_empty}
 use Rattle.cyc_grammar.specs.Classes.{keyword, the_end, number}
+use Rattle.general_models.specs.declared.runs.growth.Growth.{Growth}
+use Rattle.general_models.specs.declared.runs.growth.ValuePair.{ValuePair}
 use Rattle.general_models.specs.declared.runs.picks.Pick.{Pick}
 use Rattle.general_models.specs.declared.runs.picks.Pick.TheVariants.{Cell as CellPicked, Jumps}
-use Rattle.heap_syntax.specs.Words.{cyclist_word, from_word, given_word, comma, semicolon, last_word}
+use Rattle.heap_syntax.specs.Words.{cyclist_word, from_word, given_word, comma, semicolon, opening, closing, last_word}
 use Rattle.heap_syntax.specs.Versions.{first_version}
 use Rattle.heap_syntax.specs.declared.version.Version.TheVariants.{Two}
 use Rattle.heap_syntax.specs.Grammar.{Any, listed}
@@ -17,7 +19,7 @@ use Rattle.proof_syntax.specs.Trees.{Line}
 use Rattle.model_file.specs.Grammar.{cell, state}
 use Rattle.model_file.specs.Trees.{Cell}
 use Rattle.run_file.specs.declared.tree.Outcome.{Outcome}
-use Rattle.run_file.specs.declared.tree.Outcome.TheVariants.{Faults, Repeats}
+use Rattle.run_file.specs.declared.tree.Outcome.TheVariants.{Faults, Repeats, Grows}
 use Rattle.run_file.specs.Trees.{Run}
 
 -- ---- words
@@ -40,8 +42,14 @@ faults_word = keyword (codes "faults")
 abbrev pub repeats_word : Class (Unit {0})
 repeats_word = keyword (codes "repeats")
 
+abbrev pub grows_word : Class (Unit {0})
+grows_word = keyword (codes "grows")
+
 abbrev pub step_word : Class (Unit {0})
 step_word = keyword (codes "step")
+
+abbrev pub with_word : Class (Unit {0})
+with_word = keyword (codes "with")
 
 -- ---- the claim: { pred } { line } "from" number "given" uheap ";"; a line may be a free branch
 
@@ -78,7 +86,26 @@ picks1 = listed some_pick comma semicolon pick
 unfoldable pub picks : Syntax (List Pick)
 picks = or_empty semicolon picks1
 
+-- ---- pair = number number
+
+abbrev pub to_pair : ℕ × ℕ → ValuePair
+to_pair p = record { before = p.0; after = p.1 }
+
+abbrev pub from_pair : ValuePair → ℕ × ℕ
+from_pair p = (p.before, p.after)
+
+unfoldable pub value_pair : Syntax ValuePair
+value_pair = shaped {A = ℕ × ℕ} to_pair from_pair Any (seq (one number) (one number))
+
+abbrev pub some_pair : ValuePair
+some_pair = record { before = 0; after = 0 }
+
+-- pair { "," pair } ")"
+unfoldable pub value_pairs : Syntax (List ValuePair)
+value_pairs = listed some_pair comma closing value_pair
+
 -- ---- outcome = "faults" "line" number "step" number | "repeats" "step" number "step" number
+-- | "grows" "step" number "step" number "with" "(" pairs
 
 -- number "step" number
 unfoldable pub then_step : Syntax (ℕ × ℕ)
@@ -90,16 +117,32 @@ faulting = after faults_word (after line_word then_step)
 unfoldable pub repeating : Syntax (ℕ × ℕ)
 repeating = after repeats_word (after step_word then_step)
 
-abbrev pub to_outcome : (ℕ × ℕ) ⊎ (ℕ × ℕ) → Outcome
-to_outcome (inl p) = Faults p.0 p.1
-to_outcome (inr p) = Repeats p.0 p.1
+abbrev pub to_growth : (ℕ × ℕ) × List ValuePair → Growth
+to_growth p = record { first = p.0.0; again = p.0.1; renaming = p.1 }
 
-abbrev pub from_outcome : Outcome → (ℕ × ℕ) ⊎ (ℕ × ℕ)
+abbrev pub from_growth : Growth → (ℕ × ℕ) × List ValuePair
+from_growth g = ((g.first, g.again), g.renaming)
+
+unfoldable pub growing : Syntax Growth
+growing = shaped {A = (ℕ × ℕ) × List ValuePair} to_growth from_growth Any
+    (after grows_word (after step_word (seq then_step (after with_word (after opening value_pairs)))))
+
+abbrev pub Ends : Type 0
+Ends = (ℕ × ℕ) ⊎ ((ℕ × ℕ) ⊎ Growth)
+
+abbrev pub to_outcome : Ends → Outcome
+to_outcome (inl p) = Faults p.0 p.1
+to_outcome (inr (inl p)) = Repeats p.0 p.1
+to_outcome (inr (inr g)) = Grows g
+
+abbrev pub from_outcome : Outcome → Ends
 from_outcome (Faults l n) = inl (l, n)
-from_outcome (Repeats m n) = inr (m, n)
+from_outcome (Repeats m n) = inr (inl (m, n))
+from_outcome (Grows g) = inr (inr g)
 
 unfoldable pub outcome : Syntax Outcome
-outcome = shaped {A = (ℕ × ℕ) ⊎ (ℕ × ℕ)} to_outcome from_outcome Any (alt (is_one faults_word) faulting repeating)
+outcome = shaped {A = Ends} to_outcome from_outcome Any
+    (alt (is_one faults_word) faulting (alt (is_one repeats_word) repeating growing))
 
 -- ---- run = "cyclist" "run" "1" ";" claim "stack" values "heap" cells "picks" picks outcome ";" "end" ";", and the end of the
 -- text

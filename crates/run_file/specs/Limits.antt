@@ -4,10 +4,12 @@ use Rattle.std.specs.List.{list_all}
 use Rattle.std.specs.FinMap.{entries}
 use Rattle.cyc_basics.specs.declared.limits.TheConstants.{MOST_ARGUMENTS, MOST_CELLS, MOST_VALUES}
 use Rattle.heap_formula.specs.Cells.{Cells}
+use Rattle.general_models.specs.declared.runs.growth.Growth.{Growth}
+use Rattle.general_models.specs.declared.runs.growth.ValuePair.{ValuePair}
 use Rattle.general_models.specs.declared.runs.picks.Pick.{Pick}
 use Rattle.general_models.specs.declared.runs.picks.Pick.TheVariants.{Cell, Jumps}
 use Rattle.run_file.specs.declared.tree.Outcome.{Outcome}
-use Rattle.run_file.specs.declared.tree.Outcome.TheVariants.{Faults, Repeats}
+use Rattle.run_file.specs.declared.tree.Outcome.TheVariants.{Faults, Repeats, Grows}
 
 -- a number of at most nine digits
 abbrev pub is_short_number : ℕ → Bool
@@ -30,9 +32,20 @@ abbrev pub is_short_pick : Pick → Bool
 is_short_pick (Cell a vs) = is_short_cell a vs
 is_short_pick (Jumps b) = true
 
+abbrev pub is_short_pair : ValuePair → Bool
+is_short_pair p = is_short_number p.before && is_short_number p.after
+
+-- a pair at least
+abbrev pub are_short_pairs : List ValuePair → Bool
+are_short_pairs ps = nat_lt 0 (length ps) && list_all is_short_pair ps
+
+abbrev pub is_short_growth : Growth → Bool
+is_short_growth g = is_short_number g.first && is_short_number g.again && are_short_pairs g.renaming
+
 abbrev pub is_short_outcome : Outcome → Bool
 is_short_outcome (Faults l n) = is_short_number l && is_short_number n
 is_short_outcome (Repeats m n) = is_short_number m && is_short_number n
+is_short_outcome (Grows g) = is_short_growth g
 
 abbrev pub is_short_stack : List ℕ → Bool
 is_short_stack s = nat_le (length s) MOST_VALUES && are_short_numbers s

@@ -1,4 +1,4 @@
-//! Numbers, cells and picks, and the lists of them that a run file has.
+//! Numbers, cells, picks and pairs of values, and the lists of them that a run file has.
 
 ghost use Rattle.std.specs.Prelude.{◌≡◌, map, OnOk};
 ghost use Rattle.cyc_lex.specs.Writing.{write_all};
@@ -6,7 +6,7 @@ ghost use Rattle.cyc_grammar.specs.Classes.{symbol};
 ghost use Rattle.cyc_grammar.specs.Giving.{Gives};
 ghost use Rattle.model_file.specs.Grammar.{numbers, values, cell, cells};
 ghost use Rattle.model_file.specs.Trees.{cell_of};
-ghost use Rattle.run_file.specs.Grammar.{pick, picks};
+ghost use Rattle.run_file.specs.Grammar.{pick, picks, value_pair, value_pairs};
 ghost use Rattle.run_file.specs.Trees.{pick_of};
 
 use crate::lists::{Item, listed, listed_or_none, write_listed, write_listed_or_none};
@@ -14,6 +14,7 @@ use crate::tree::PickTree;
 use cyc_basics::memory::OutOfMemory;
 use cyc_grammar::{Cursor, Refusal};
 use cyc_lex::WordWriter;
+use general_models::runs::ValuePair;
 use model_file::syntax::CellTree;
 use std::alloc::Global;
 
@@ -216,4 +217,66 @@ pub fn write_picks(trees: &[PickTree], writer: &mut WordWriter) -> Result<(), Ou
     ensures { OnOk result (writer.new ≡ write_all writer.old (picks.words (map pick_of trees.now))) }
 {
     write_listed_or_none(&PickItem, trees, writer)
+}
+
+#[tactic(auto, unfolding(crate::specs::Grammar::value_pair))]
+fn value_pair(cursor: &mut Cursor<'_, '_>) -> Result<ValuePair, Refusal>
+    ensures { Gives (λ x. (x, cursor.new)) result (value_pair.read cursor.old) }
+{
+    let before = cursor.number()?;
+    let after = cursor.number()?;
+    Ok(ValuePair { before, after })
+}
+
+#[tactic(auto, unfolding(crate::specs::Grammar::value_pair, cyc_lex::specs::Writing::write_all))]
+fn write_value_pair(pair: ValuePair, writer: &mut WordWriter) -> Result<(), OutOfMemory>
+    requires { value_pair.fits pair }
+    ensures { OnOk result (writer.new ≡ write_all writer.old (value_pair.words pair)) }
+{
+    writer.number(pair.before)?;
+    writer.number(pair.after)
+}
+
+/// Pairs of values.
+#[derive(Clone, Copy)]
+struct PairItem;
+
+impl Item for PairItem {
+    ghost use Rattle.general_models.specs.declared.runs.growth.ValuePair as growth;
+    ghost use Rattle.run_file.specs.Grammar as grammar;
+
+    type Tree = ValuePair;
+
+    ghost Value = { growth.ValuePair };
+
+    ghost seen = { λ p. p };
+
+    ghost some = { λ _. grammar.some_pair };
+
+    ghost syntax = { λ _. grammar.value_pair };
+
+    fn read_item(&self, _alloc: Global, cursor: &mut Cursor<'_, '_>) -> Result<ValuePair, Refusal> {
+        value_pair(cursor)
+    }
+
+    fn write_item(&self, tree: &ValuePair, writer: &mut WordWriter) -> Result<(), OutOfMemory> {
+        write_value_pair(*tree, writer)
+    }
+}
+
+/// Reads one pair or more, and the parenthesis.
+#[tactic(auto, unfolding(crate::specs::Grammar::value_pairs))]
+pub fn value_pairs(alloc: Global, cursor: &mut Cursor<'_, '_>) -> Result<Vec<ValuePair>, Refusal>
+    ensures { Gives (λ x. (x.items, cursor.new)) result (value_pairs.read cursor.old) }
+{
+    listed(alloc, ")", &PairItem, cursor)
+}
+
+/// Writes one pair or more, and the parenthesis.
+#[tactic(auto, unfolding(crate::specs::Grammar::value_pairs))]
+pub fn write_value_pairs(pairs: &[ValuePair], writer: &mut WordWriter) -> Result<(), OutOfMemory>
+    requires { value_pairs.fits pairs.now }
+    ensures { OnOk result (writer.new ≡ write_all writer.old (value_pairs.words pairs.now)) }
+{
+    write_listed(")", &PairItem, pairs, writer)
 }

@@ -11,13 +11,14 @@ ghost use Rattle.heap_syntax.specs.DefinitionTrees.{heap_of};
 ghost use Rattle.proof_syntax.specs.Grammar.{lines};
 ghost use Rattle.model_file.specs.Trees.{cell_of};
 ghost use Rattle.model_file.specs.Grammar.{state};
-ghost use Rattle.run_file.specs.Grammar.{state_claimed, then_step, outcome, ending, body, run};
+ghost use Rattle.run_file.specs.Grammar.{state_claimed, then_step, growing, outcome, ending, body, run};
 ghost use Rattle.run_file.specs.Trees.{Run, run_of};
 
-use crate::items::{cells, picks, values};
+use crate::items::{cells, picks, value_pairs, values};
 use crate::tree::{Outcome, RunTree};
 use cyc_grammar::{Cursor, Refusal, read_fault};
 use cyc_lex::{ReadFault, Token, Tokens};
+use general_models::runs::{Growth, Renaming};
 use heap_syntax::definitions::{HeapTree, definitions, heap};
 use heap_syntax::{Version, first_version};
 use model_file::syntax::CellTree;
@@ -70,8 +71,26 @@ fn then_step(cursor: &mut Cursor<'_, '_>) -> Result<(u32, u32), Refusal>
     Ok((first, step))
 }
 
+/// Two numbers of steps, and the pairs of values.
+#[tactic(auto, unfolding(crate::specs::Grammar::growing))]
+fn growing(alloc: Global, cursor: &mut Cursor<'_, '_>) -> Result<Growth, Refusal>
+    ensures { Gives (λ x. (x, cursor.new)) result (growing.read cursor.old) }
+{
+    cursor.keyword("grows")?;
+    cursor.keyword("step")?;
+    let (first, again) = then_step(cursor)?;
+    cursor.keyword("with")?;
+    cursor.symbol("(")?;
+    let pairs = value_pairs(alloc, cursor)?;
+    Ok(Growth {
+        first,
+        again,
+        renaming: Renaming::from_vec(pairs),
+    })
+}
+
 #[tactic(auto, unfolding(crate::specs::Grammar::outcome, crate::specs::Grammar::faulting, crate::specs::Grammar::repeating))]
-fn outcome(cursor: &mut Cursor<'_, '_>) -> Result<Outcome, Refusal>
+fn outcome(alloc: Global, cursor: &mut Cursor<'_, '_>) -> Result<Outcome, Refusal>
     ensures { Gives (λ x. (x, cursor.new)) result (outcome.read cursor.old) }
 {
     if cursor.is_keyword_next("faults") {
@@ -80,18 +99,22 @@ fn outcome(cursor: &mut Cursor<'_, '_>) -> Result<Outcome, Refusal>
         let (line, step) = then_step(cursor)?;
         return Ok(Outcome::Faults { line, step });
     }
-    cursor.keyword("repeats")?;
-    cursor.keyword("step")?;
-    let (first, again) = then_step(cursor)?;
-    Ok(Outcome::Repeats { first, again })
+    if cursor.is_keyword_next("repeats") {
+        cursor.keyword("repeats")?;
+        cursor.keyword("step")?;
+        let (first, again) = then_step(cursor)?;
+        return Ok(Outcome::Repeats { first, again });
+    }
+    let growth = growing(alloc, cursor)?;
+    Ok(Outcome::Grows(growth))
 }
 
 /// How the run ends, and the last statement's word.
 #[tactic(auto, unfolding(crate::specs::Grammar::ending))]
-fn ending(cursor: &mut Cursor<'_, '_>) -> Result<Outcome, Refusal>
+fn ending(alloc: Global, cursor: &mut Cursor<'_, '_>) -> Result<Outcome, Refusal>
     ensures { Gives (λ x. (x, cursor.new)) result (ending.read cursor.old) }
 {
-    let outcome = outcome(cursor)?;
+    let outcome = outcome(alloc, cursor)?;
     cursor.symbol(";")?;
     cursor.keyword("end")?;
     Ok(outcome)
@@ -111,7 +134,7 @@ fn body<'a>(alloc: Global, cursor: &mut Cursor<'_, 'a>) -> Result<RunTree<'a>, R
     let (stack, cells) = state(alloc, cursor)?;
     cursor.keyword("picks")?;
     let picks = picks(alloc, cursor)?;
-    let outcome = ending(cursor)?;
+    let outcome = ending(alloc, cursor)?;
     cursor.symbol(";")?;
     Ok(RunTree {
         definitions,

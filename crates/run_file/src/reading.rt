@@ -33,6 +33,7 @@ fn run_of_tree(alloc: Global, heads: &Heads<'_>, tree: &RunTree<'_>) -> Result<R
     let stack = Stack::from_vec(wide_numbers(alloc, &tree.stack)?);
     let heap = cells(alloc, &tree.cells)?;
     let picks = picks(alloc, &tree.picks)?;
+    let outcome = tree.outcome.clone()?;
     Ok(RunFile {
         defs: front.defs,
         program: front.program,
@@ -41,7 +42,7 @@ fn run_of_tree(alloc: Global, heads: &Heads<'_>, tree: &RunTree<'_>) -> Result<R
         stack,
         heap,
         picks,
-        outcome: tree.outcome,
+        outcome,
     })
 }
 

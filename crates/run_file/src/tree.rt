@@ -1,8 +1,12 @@
 //! Trees of run files: what a text of the grammar says, with lists of any length and numbers of at most nine digits.
 
+ghost use Rattle.std.specs.Prelude.{◌≡◌};
+
+use general_models::runs::Growth;
 use heap_syntax::definitions::{DefinitionTree, HeapTree};
 use model_file::syntax::CellTree;
 use proof_syntax::LineTree;
+use std::alloc::AllocError;
 
 /// What a run picks: the address and the fields of a new cell, or whether a free branch jumps.
 #[derive(Drop)]
@@ -12,12 +16,35 @@ pub enum PickTree {
 }
 
 /// How a run ends.
-#[derive(Clone, Copy, PartialEq, Eq, Debug)]
+#[derive(Drop)]
 pub enum Outcome {
     /// The command at this line faults, after so many steps.
     Faults { line: u32, step: u32 },
     /// The state after `again` steps is that after `first` steps.
     Repeats { first: u32, again: u32 },
+    /// The run comes back to a state like one before, with more.
+    Grows(Growth),
+}
+
+impl Clone for Outcome {
+    ghost is_clone = { λ outcome copy. copy ≡ outcome };
+
+    fn clone(&self) -> Result<Outcome, AllocError> {
+        match self {
+            Outcome::Faults { line, step } => Ok(Outcome::Faults {
+                line: *line,
+                step: *step,
+            }),
+            Outcome::Repeats { first, again } => Ok(Outcome::Repeats {
+                first: *first,
+                again: *again,
+            }),
+            Outcome::Grows(growth) => {
+                let growth = growth.clone()?;
+                Ok(Outcome::Grows(growth))
+            }
+        }
+    }
 }
 
 /// A run file: a claim of termination with its definitions and lines, the values of the stack, the cells of the heap

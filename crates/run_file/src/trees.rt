@@ -102,6 +102,7 @@ pub fn run_tree<'a>(alloc: Global, run: &'a RunFile) -> Result<RunTree<'a>, OutO
     let stack = narrow_numbers(alloc, run.stack.as_slice())?;
     let cells = cells(alloc, &run.heap)?;
     let picks = picks(alloc, &run.picks)?;
+    let outcome = run.outcome.clone()?;
     Ok(RunTree {
         definitions,
         lines,
@@ -110,6 +111,6 @@ pub fn run_tree<'a>(alloc: Global, run: &'a RunFile) -> Result<RunTree<'a>, OutO
         stack,
         cells,
         picks,
-        outcome: run.outcome,
+        outcome,
     })
 }

@@ -9,14 +9,15 @@ ghost use Rattle.heap_syntax.specs.DefinitionTrees.{heap_of};
 ghost use Rattle.proof_syntax.specs.Grammar.{lines};
 ghost use Rattle.model_file.specs.Grammar.{state};
 ghost use Rattle.model_file.specs.Trees.{cell_of};
-ghost use Rattle.run_file.specs.Grammar.{state_claimed, claim, claim_of, then_step, outcome, ending, course, course_of};
-ghost use Rattle.run_file.specs.Grammar.{body, run};
+ghost use Rattle.run_file.specs.Grammar.{state_claimed, claim, claim_of, then_step, growing, outcome, ending, course};
+ghost use Rattle.run_file.specs.Grammar.{course_of, body, run};
 ghost use Rattle.run_file.specs.Trees.{run_of};
 
-use crate::items::{write_cells, write_picks, write_values};
+use crate::items::{write_cells, write_picks, write_value_pairs, write_values};
 use crate::tree::{Outcome, RunTree};
 use cyc_basics::memory::OutOfMemory;
 use cyc_lex::WordWriter;
+use general_models::runs::Growth;
 use heap_syntax::definitions::HeapTree;
 use heap_syntax::writing::{write_definitions, write_heap};
 use heap_syntax::{Version, write_first_version};
@@ -85,29 +86,43 @@ fn write_then_step(first: u32, step: u32, writer: &mut WordWriter) -> Result<(),
     writer.number(step)
 }
 
+#[tactic(auto, using(cyc_lex::proofs::WritingLaws::write_all_on), unfolding(crate::specs::Grammar::growing, cyc_lex::specs::Writing::write_all))]
+fn write_growing(tree: &Growth, writer: &mut WordWriter) -> Result<(), OutOfMemory>
+    requires { growing.fits tree.now }
+    ensures { OnOk result (writer.new ≡ write_all writer.old (growing.words tree.now)) }
+{
+    writer.name("grows")?;
+    writer.name("step")?;
+    write_then_step(tree.first, tree.again, writer)?;
+    writer.name("with")?;
+    writer.symbol("(")?;
+    write_value_pairs(tree.renaming.as_slice(), writer)
+}
+
 #[tactic(auto, unfolding(crate::specs::Grammar::outcome, crate::specs::Grammar::faulting, crate::specs::Grammar::repeating, cyc_lex::specs::Writing::write_all))]
-fn write_outcome(tree: Outcome, writer: &mut WordWriter) -> Result<(), OutOfMemory>
-    requires { outcome.fits tree }
-    ensures { OnOk result (writer.new ≡ write_all writer.old (outcome.words tree)) }
+fn write_outcome(tree: &Outcome, writer: &mut WordWriter) -> Result<(), OutOfMemory>
+    requires { outcome.fits tree.now }
+    ensures { OnOk result (writer.new ≡ write_all writer.old (outcome.words tree.now)) }
 {
     match tree {
         Outcome::Faults { line, step } => {
             writer.name("faults")?;
             writer.name("line")?;
-            write_then_step(line, step, writer)
+            write_then_step(*line, *step, writer)
         }
         Outcome::Repeats { first, again } => {
             writer.name("repeats")?;
             writer.name("step")?;
-            write_then_step(first, again, writer)
+            write_then_step(*first, *again, writer)
         }
+        Outcome::Grows(growth) => write_growing(growth, writer),
     }
 }
 
 #[tactic(auto, using(cyc_lex::proofs::WritingLaws::write_all_on), unfolding(crate::specs::Grammar::ending, cyc_lex::specs::Writing::write_all))]
-fn write_ending(tree: Outcome, writer: &mut WordWriter) -> Result<(), OutOfMemory>
-    requires { ending.fits tree }
-    ensures { OnOk result (writer.new ≡ write_all writer.old (ending.words tree)) }
+fn write_ending(tree: &Outcome, writer: &mut WordWriter) -> Result<(), OutOfMemory>
+    requires { ending.fits tree.now }
+    ensures { OnOk result (writer.new ≡ write_all writer.old (ending.words tree.now)) }
 {
     write_outcome(tree, writer)?;
     writer.symbol(";")?;
@@ -123,7 +138,7 @@ fn write_course(tree: &RunTree<'_>, writer: &mut WordWriter) -> Result<(), OutOf
     write_state(&tree.stack, &tree.cells, writer)?;
     writer.name("picks")?;
     write_picks(&tree.picks, writer)?;
-    write_ending(tree.outcome, writer)
+    write_ending(&tree.outcome, writer)
 }
 
 #[tactic(auto, using(cyc_lex::proofs::WritingLaws::write_all_on), unfolding(crate::specs::Grammar::body, cyc_lex::specs::Writing::write_all))]

@@ -5,18 +5,19 @@ use Rattle.heap_formula.specs.Meaning.{Satisfies}
 use Rattle.heap_formula.specs.Programs.{Config as State, start_at}
 use Rattle.general_models.specs.declared.runs.picks.Pick.{Pick}
 use Rattle.general_models.specs.declared.runs.refuting.Ending.{Ending}
-use Rattle.general_models.specs.declared.runs.refuting.Ending.TheVariants.{FaultAfter, Repeat}
+use Rattle.general_models.specs.declared.runs.refuting.Ending.TheVariants.{FaultAfter, Repeat, Grow}
 use Rattle.general_models.specs.Picks.{headroom_of}
 use Rattle.general_models.specs.Refuting.{IsRefuting}
 use Rattle.general_models.specs.Runs.{PickedRun}
 use Rattle.run_file.specs.declared.tree.Outcome.{Outcome}
-use Rattle.run_file.specs.declared.tree.Outcome.TheVariants.{Faults, Repeats}
+use Rattle.run_file.specs.declared.tree.Outcome.TheVariants.{Faults, Repeats, Grows}
 use Rattle.run_file.specs.declared.file.RunFile.{RunFile}
 
 -- how the run is to end
 abbrev pub ending_of : Outcome → Ending
 ending_of (Faults line step) = FaultAfter step
 ending_of (Repeats first again) = Repeat first again
+ending_of (Grows growth) = Grow growth
 
 -- after so many steps the run is at this line
 abbrev pub IsAt : List Command → ℕ → List Pick → State → ℕ → ℕ → Type 0
@@ -26,8 +27,10 @@ IsAt lines w picks c steps line = (k : ℕ) × (d : State) × PickedRun lines w 
 abbrev pub IsAtLine : List Command → ℕ → List Pick → State → Outcome → Type 0
 IsAtLine lines w picks c (Faults line step) = IsAt lines w picks c step line
 IsAtLine lines w picks c (Repeats first again) = Unit {0}
+IsAtLine lines w picks c (Grows growth) = Unit {0}
 
--- from a state the run ends as is told: the command at the line faults after so many steps, or the run comes back
+-- from a state the run ends as is told: the command at the line faults after so many steps, or the run comes back,
+-- perhaps with more
 pub record EndsSo (lines : List Command) (w : ℕ) (picks : List Pick) (c : State) (outcome : Outcome) : Type 0 where
   pub ends : IsRefuting lines w picks c (ending_of outcome)
   pub line : IsAtLine lines w picks c outcome

@@ -52,6 +52,7 @@ fn outcome(
 ) -> Result<Outcome, OutOfMemory> {
     match ending {
         Ending::Repeat(first, again) => Ok(Outcome::Repeats { first, again }),
+        Ending::Grow(growth) => Ok(Outcome::Grows(growth)),
         Ending::FaultAfter(step) => {
             let count = (program.variables() as usize).min(stack.len());
             let start = Config {
@@ -86,6 +87,7 @@ fn checked(
     ensures { IfOk result (IsFoundRun problem.now) }
 {
     let heap = heap_of(alloc, run.cells)?;
+    let ending = run.ending;
     let outcome = outcome(
         alloc,
         &problem.program,
@@ -93,7 +95,7 @@ fn checked(
         &run.stack,
         &heap,
         &run.picks,
-        run.ending,
+        ending,
     )?;
     let Some(file) = run_for(alloc, problem, run.stack, heap, run.picks, outcome)? else {
         return Ok(None);
@@ -105,8 +107,8 @@ fn checked(
     Ok(Some(file))
 }
 
-/// Searches for a run of the goal's program from a state of its precondition, which faults or comes back, in so many
-/// rounds.
+/// Searches for a run of the goal's program from a state of its precondition, which faults or comes back, perhaps with
+/// more, in so many rounds.
 pub fn refuting_run(
     alloc: Global,
     problem: &Problem,

@@ -12,12 +12,16 @@ use goto_lang::{Config, Program};
 use run_file::{Outcome, RunFile};
 use std::alloc::Global;
 
-fn ending_of(outcome: Outcome) -> Ending
-    ensures { result ≡ ending_for outcome }
+fn ending_of(outcome: &Outcome) -> Result<Ending, OutOfMemory>
+    ensures { IfOk result (λ ending. ending ≡ ending_for outcome.now) }
 {
     match outcome {
-        Outcome::Faults { line: _, step } => Ending::FaultAfter(step),
-        Outcome::Repeats { first, again } => Ending::Repeat(first, again),
+        Outcome::Faults { line: _, step } => Ok(Ending::FaultAfter(*step)),
+        Outcome::Repeats { first, again } => Ok(Ending::Repeat(*first, *again)),
+        Outcome::Grows(growth) => {
+            let growth = growth.clone()?;
+            Ok(Ending::Grow(growth))
+        }
     }
 }
 
@@ -46,20 +50,22 @@ pub fn ends_so(
     program: &Program,
     start: &Config,
     picks: &[Pick],
-    outcome: Outcome,
+    outcome: &Outcome,
 ) -> Result<bool, OutOfMemory>
     requires { IsStateOf program.now (state_of start.now) }
     ensures { IfOk result (λ yes. IsTrue yes
-        ↔ EndsSo program.now (headroom_of picks.now) picks.now (state_of start.now) outcome) }
+        ↔ EndsSo program.now (headroom_of picks.now) picks.now (state_of start.now) outcome.now) }
 {
     let w = headroom(picks);
-    let ends = is_refuting(alloc, program, start, w, picks, ending_of(outcome))?;
+    let ending = ending_of(outcome)?;
+    let ends = is_refuting(alloc, program, start, w, picks, &ending)?;
     if !ends {
         return Ok(false);
     }
     match outcome {
-        Outcome::Faults { line, step } => is_at(alloc, program, start, w, picks, step, line),
+        Outcome::Faults { line, step } => is_at(alloc, program, start, w, picks, *step, *line),
         Outcome::Repeats { first: _, again: _ } => Ok(true),
+        Outcome::Grows(_) => Ok(true),
     }
 }
 
@@ -81,5 +87,5 @@ pub fn is_right(alloc: Global, file: &RunFile) -> Result<bool, CheckFault>
         return Ok(false);
     }
     let start = start_state(alloc, &file.program, file.line, &file.stack, &file.heap)?;
-    Ok(ends_so(alloc, &file.program, &start, &file.picks, file.outcome)?)
+    Ok(ends_so(alloc, &file.program, &start, &file.picks, &file.outcome)?)
 }

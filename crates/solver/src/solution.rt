@@ -27,7 +27,7 @@ pub enum Refutation {
     /// A stack and a heap that satisfy the antecedent and none of the disjuncts, as a model file that asks for the
     /// antecedent.
     CounterModel(Model),
-    /// A run from a state of the precondition that faults, or comes back to a state where it was.
+    /// A run from a state of the precondition that faults, or comes back to a state where it was, perhaps with more.
     FaultyRun(RunFile),
 }
 

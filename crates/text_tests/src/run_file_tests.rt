@@ -58,11 +58,24 @@ repeats step 999999999 step 0;
 end;
 ";
 
+const GROWN: &[u8] = b"cyclist run 1;
+pred grows(1) { true : with() };
+pred with(0) { true : emp };
+line 1 : $0 := new 1;
+line 2 : goto 1;
+from 1 given true : grows(nil);
+stack;
+heap;
+picks 1 -> (0), 2 -> (0);
+grows step 1 step 3 with(0 0, 1 2, 999999999 0);
+end;
+";
+
 /// A text in the written form is written as it stands; no word of a run file is reserved; picks may have any addresses,
 /// one of them twice.
 #[test]
 fn writes_what_it_reads(rt: HostRuntime) -> Result<(), Fail> {
-    for text in [SHORT, PICKED, NAMES] {
+    for text in [SHORT, PICKED, NAMES, GROWN] {
         let written = again(rt.alloc(), text)?;
         assert_eq!(rt; written.as_slice(), text);
     }
@@ -151,6 +164,16 @@ from 1 given true: ?0 -> (nil);stack;heap;picks;faults line 1 step 0;end;",
             token: 14,
             line: 2,
             column: 20,
+        },
+    ),
+    // a run that grows, without a pair
+    (
+        b"cyclist run 1;line 1: stop;
+from 1 given true: emp;stack;heap;picks;grows step 1 step 2 with ();end;",
+        ReadFault::Syntax {
+            token: 29,
+            line: 2,
+            column: 67,
         },
     ),
     // no such outcome, and a line that does not exist before it

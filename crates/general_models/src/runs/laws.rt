@@ -28,7 +28,8 @@ pub fn picks_are_allowed_under_their_headroom()
         → MayPick (headroom_of picks) c k a vs ↔ ((0 < a) × (cell_at c.heap a ≡ None) × (length vs ≡ k)) }
 {}
 
-/// A run that faults or comes back excludes that the program halts within any number of steps, under its headroom.
+/// A run that faults, or comes back, perhaps with more, excludes that the program halts within any number of steps,
+/// under its headroom.
 pub fn refuting_runs_never_halt()
     ensures { (lines : List Command) (w : ℕ) (picks : List Pick) (c : State) (ending : Ending)
         → IsRefuting lines w picks c ending → (n : ℕ) → ¬ Halts lines w n c }

@@ -4,7 +4,10 @@ ghost use Rattle.heap_formula.specs.Programs.{first_values, start_at};
 ghost use Rattle.goto_lang.specs.States.{state_of, IsStateOf};
 ghost use Rattle.general_models.specs.Refuting.{IsRefuting, IsState};
 
+use crate::runs::alike::are_alike;
 use crate::runs::comparing::same_states;
+use crate::runs::fresh::fresh_state_after;
+use crate::runs::growth::Growth;
 use crate::runs::picks::Pick;
 use crate::runs::running::{Cause, RunEnd, run};
 use cyc_basics::memory::OutOfMemory;
@@ -12,11 +15,12 @@ use goto_lang::{Cells, Config, Program, Stack};
 use std::alloc::Global;
 
 /// How a run is to end: by a fault after this many steps; or it comes back, and is in one state after each of these two
-/// numbers of steps, the first less than the second.
-#[derive(Clone, Copy, PartialEq, Eq, Debug)]
+/// numbers of steps, the first less than the second; or it comes back with more.
+#[derive(Clone, Drop)]
 pub enum Ending {
     FaultAfter(u32),
     Repeat(u32, u32),
+    Grow(Growth),
 }
 
 fn is_fault(cause: Cause) -> bool
@@ -94,6 +98,31 @@ fn comes_back(
     same_states(alloc, &one, &other)
 }
 
+fn comes_back_with_more(
+    alloc: Global,
+    program: &Program,
+    start: &Config,
+    w: u64,
+    picks: &[Pick],
+    growth: &Growth,
+) -> Result<bool, OutOfMemory>
+    requires { IsStateOf program.now (state_of start.now) }
+    ensures { IfOk result (λ yes. IsTrue yes
+        ↔ IsRefuting program.now w picks.now (state_of start.now) (Ending.Grow growth.now)) }
+{
+    if growth.first >= growth.again {
+        return Ok(false);
+    }
+    let Some(one) = state_after(alloc, program, start, w, picks, growth.first)? else {
+        return Ok(false);
+    };
+    let later = fresh_state_after(alloc, program, start, w, picks, growth.first, growth.again)?;
+    let Some(other) = later else {
+        return Ok(false);
+    };
+    Ok(are_alike(growth.renaming.as_slice(), &one, &other))
+}
+
 /// Whether the run from a state with these picks, under headroom w, ends as is said: then the program does not halt
 /// from there. The caller has a state of the program, as `is_state_of` tests; `headroom` gives a headroom that allows
 /// the numbers of the picks.
@@ -103,17 +132,18 @@ pub fn is_refuting(
     start: &Config,
     w: u64,
     picks: &[Pick],
-    ending: Ending,
+    ending: &Ending,
 ) -> Result<bool, OutOfMemory>
     requires { IsStateOf program.now (state_of start.now) }
     ensures exact { IfOk result (λ yes. IsTrue yes
-        ↔ IsRefuting program.now w picks.now (state_of start.now) ending) }
+        ↔ IsRefuting program.now w picks.now (state_of start.now) ending.now) }
 {
     match ending {
-        Ending::FaultAfter(n) => faults_after(alloc, program, start, w, picks, n),
+        Ending::FaultAfter(n) => faults_after(alloc, program, start, w, picks, *n),
         Ending::Repeat(first, again) => {
-            comes_back(alloc, program, start, w, picks, first, again)
+            comes_back(alloc, program, start, w, picks, *first, *again)
         }
+        Ending::Grow(growth) => { comes_back_with_more(alloc, program, start, w, picks, growth) }
     }
 }
 

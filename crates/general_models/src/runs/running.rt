@@ -33,7 +33,7 @@ pub enum RunEnd {
 
 /// What a step of a run comes to.
 #[derive(Drop)]
-enum Move {
+pub enum Move {
     To(Config),
     None(Cause),
 }
@@ -55,7 +55,7 @@ fn suits(command: Command, picks: &[Pick], used: usize) -> bool
     }
 }
 
-fn picks_of(command: Command) -> usize
+pub fn picks_of(command: Command) -> usize
     ensures { result ≡ taken_by command }
 {
     match command {
@@ -71,7 +71,7 @@ fn picks_of(command: Command) -> usize
     }
 }
 
-fn address_of(picks: &[Pick], used: usize) -> u64
+pub fn address_of(picks: &[Pick], used: usize) -> u64
     ensures { result ≡ address_in (slice_get picks.now used) }
 {
     match picks.get(used) {
@@ -81,7 +81,7 @@ fn address_of(picks: &[Pick], used: usize) -> u64
     }
 }
 
-fn fields_of(picks: &[Pick], used: usize) -> &[u64]
+pub fn fields_of(picks: &[Pick], used: usize) -> &[u64]
     ensures { result.now ≡ fields_in (slice_get picks.now used) }
 {
     match picks.get(used) {
@@ -91,7 +91,7 @@ fn fields_of(picks: &[Pick], used: usize) -> &[u64]
 }
 
 /// One step, which takes the pick at a place.
-fn next_step(
+pub fn next_step(
     alloc: Global,
     program: &Program,
     config: &Config,

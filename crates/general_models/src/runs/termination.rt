@@ -25,14 +25,14 @@ pub fn refutes_termination(
     stack: &Stack,
     heap: &Cells,
     picks: &[Pick],
-    ending: Ending,
+    ending: &Ending,
     most: u64,
 ) -> Result<bool, CheckFault>
     requires from_one { 0 < line }
     requires to_last { line ≤ length program.now }
     ensures exact { IfOk result (λ yes. IsTrue yes ↔ (Satisfies defs.now.list stack.now heap.now precondition.now
         × IsRefuting program.now (headroom_of picks.now) picks.now
-        (start_at program.now line stack.now heap.now) ending)) }
+        (start_at program.now line stack.now heap.now) ending.now)) }
     ensures refuted { IfOk result (λ yes. IsTrue yes
         → ¬ TerminationHolds defs.now.list program.now line precondition.now) }
 {

@@ -3,13 +3,14 @@ ghost use Rattle.std.specs.Prelude.{◌≡◌, ◌&&◌, IfOk};
 ghost use Rattle.std.specs.List.{list_all};
 ghost use Rattle.heap_formula.specs.Cells.{cell_at};
 ghost use Rattle.run_file.specs.Limits.{is_short_number, are_short_numbers, are_fields, is_short_cell, is_short_pick};
-ghost use Rattle.run_file.specs.Limits.{is_short_outcome, is_short_stack, is_short_heap, is_short_run};
+ghost use Rattle.run_file.specs.Limits.{is_short_pair, are_short_pairs, is_short_outcome, is_short_stack, is_short_heap};
+ghost use Rattle.run_file.specs.Limits.{is_short_run};
 ghost use Rattle.run_file.specs.Places.{is_short_place};
 
 use crate::Outcome;
 use cyc_basics::limits::{MOST_ARGUMENTS, MOST_CELLS, MOST_VALUES};
 use cyc_basics::memory::OutOfMemory;
-use general_models::runs::Pick;
+use general_models::runs::{Pick, ValuePair};
 use goto_lang::Cells;
 use std::alloc::Global;
 
@@ -83,14 +84,37 @@ fn are_short_picks(picks: &[Pick]) -> bool
     picks.iter().all(|pick| is_short_pick(pick))
 }
 
-fn is_short_outcome(outcome: Outcome) -> bool
-    ensures { result ≡ is_short_outcome outcome }
+fn are_both_short(first: u32, second: u32) -> bool
+    ensures { result ≡ (is_short_number first && is_short_number second) }
 {
-    let (first, second) = match outcome {
-        Outcome::Faults { line, step } => (line, step),
-        Outcome::Repeats { first, again } => (first, again),
-    };
     is_short_number(u64::from(first)) && is_short_number(u64::from(second))
+}
+
+fn are_all_short(pairs: &[ValuePair]) -> bool
+    ensures { result ≡ list_all is_short_pair pairs.now }
+{
+    pairs
+        .iter()
+        .all(|pair| are_both_short(pair.before, pair.after))
+}
+
+fn are_short_pairs(pairs: &[ValuePair]) -> bool
+    ensures { result ≡ are_short_pairs pairs.now }
+{
+    !pairs.is_empty() && are_all_short(pairs)
+}
+
+fn is_short_outcome(outcome: &Outcome) -> bool
+    ensures { result ≡ is_short_outcome outcome.now }
+{
+    match outcome {
+        Outcome::Faults { line, step } => are_both_short(*line, *step),
+        Outcome::Repeats { first, again } => are_both_short(*first, *again),
+        Outcome::Grows(growth) => {
+            are_both_short(growth.first, growth.again)
+                && are_short_pairs(growth.renaming.as_slice())
+        }
+    }
 }
 
 /// Whether a run file may have the stack, the heap, the picks and the outcome.
@@ -99,9 +123,9 @@ pub fn is_short_run(
     stack: &[u64],
     heap: &Cells,
     picks: &[Pick],
-    outcome: Outcome,
+    outcome: &Outcome,
 ) -> Result<bool, OutOfMemory>
-    ensures { IfOk result (λ b. b ≡ is_short_run stack.now heap.now picks.now outcome) }
+    ensures { IfOk result (λ b. b ≡ is_short_run stack.now heap.now picks.now outcome.now) }
 {
     let is_short = is_short_heap(alloc, heap)?;
     Ok(is_short_stack(stack) && is_short && are_short_picks(picks) && is_short_outcome(outcome))

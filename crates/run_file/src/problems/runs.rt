@@ -46,8 +46,8 @@ fn run_of_claim(
 
 /// The run file with copies of the problem's definitions and program, its claim, and this run. There is none where the
 /// goal is an entailment, and where the format has no room for the run: its numbers have at most nine digits, the stack
-/// at most 65,535 entries, the heap at most sixteen cells, and each cell one to eight fields. Whether the run refutes
-/// the claim is not asked.
+/// at most 65,535 entries, the heap at most sixteen cells, and each cell one to eight fields; and a run that grows has
+/// a pair at least. Whether the run refutes the claim is not asked.
 pub fn run_for(
     alloc: Global,
     problem: &Problem,
@@ -62,7 +62,7 @@ pub fn run_for(
     let Judgement::Term(line, precondition) = &problem.goal else {
         return Ok(None);
     };
-    if !is_short_run(alloc, &stack, &heap, &picks, outcome)? {
+    if !is_short_run(alloc, &stack, &heap, &picks, &outcome)? {
         return Ok(None);
     }
     let run = run_of_claim(problem, *line, precondition, stack, heap, picks, outcome)?;

@@ -69,9 +69,9 @@ invariant_of-result c =
     let long = program_long r.lines in
     let same : sorted r
     ≡ tree_of c.in_ok-front.front.defs.list c.in_ok-front.front.program r.line c.in_ok-precondition.precondition
-    c.from_vec-stack.result c.in_ok-heap.heap c.in_ok-picks.picks.items r.outcome =
+    c.from_vec-stack.result c.in_ok-heap.heap c.in_ok-picks.picks.items c.in_ok-outcome.outcome =
     sym ((λ i. tree_of (definitions_are i) (program_is i) r.line (state_is i) (stack_is i) (heap_is i) (picks_are i)
-    r.outcome) ∙ tree_again r c.requires.right) in
+    (c.in_ok-outcome.ensures.cases i)) ∙ tree_again r c.requires.right) in
     record {
       limit = c.in_ok-front.ensures.most;
       from_one = there.0;
@@ -95,5 +95,5 @@ returns c =
       stack = c.from_vec-stack.ensures ∙ c.in_ok-wide_numbers.ensures ∙ c.deref-3.ensures.value;
       heap = c.in_ok-heap.ensures ∙ ap (λ (cs : List CellTree). cells_value (map cell_of cs)) c.deref-4.ensures.value;
       picks = c.in_ok-picks.ensures ∙ ap (map pick_of) c.deref-5.ensures.value;
-      outcome = refl;
+      outcome = c.in_ok-outcome.ensures.cases;
     }

@@ -41,5 +41,5 @@ returns c =
       stack = stack i;
       cells = cells i;
       picks = picks i;
-      outcome = r.outcome;
+      outcome = c.in_ok-outcome.ensures.cases i;
     }
