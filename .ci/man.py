@@ -114,7 +114,8 @@ RUNS = {
     "cyclist-solve": [
         ([], "list-segments.problem"), (["solve"], ""), (["--effort", "10"], ""), ([], ""), ([], UNKNOWN.replace("proof", "problem").replace("node", "goal").replace(" by Done", "")),
         ([], "cyclist problem 1; goal true : emp |- " + " or ".join(["true : emp"] * 17) + "; end;"), ([], "acyclic-segments.problem"),
-        (["--effort", "1"], "allocation.problem"),
+        (["--effort", "1"], "../.ci/solves/unknown/walk-and-grow.problem"),
+        ([], "slcomp/one-cell-twice.smt2"), ([], "slcomp/bolognesa-10-e02.smt2"), ([], "slcomp/spaghetti-10-e01-sat.smt2"), ([], "slcomp/hand-no-base-case.smt2"), ([], "(push 1)"),
     ],
     "cyclist-draw": [
         ([], "first.proof"), (["--fold"], "first.proof"), (["draw"], ""), ([], ""), ([], UNKNOWN), ([], LONG), ([], RIGHT + "end;"),

@@ -2,7 +2,8 @@
 # examples/check.sh PROGRAM SOLVER: each example is answered as its line in answers.txt says; the proof beside a problem, its
 # comments aside, is what `prove` writes of that problem, or there is none and no proof is found; `solve` answers each problem
 # as solved.txt and field/answers.txt say, and the proofs in solve/ are what it writes; the model beside a problem is what `disprove` writes of that
-# problem, and `model` says that it holds; the first-order proof beside a first-order problem is what `fo` writes of that problem.
+# problem, and `model` says that it holds; the first-order proof beside a first-order problem is what `fo` writes of that problem;
+# each script is answered as slcomp/answers.txt says.
 set -u
 program=$1
 solver=$2
@@ -63,6 +64,15 @@ while IFS='|' read -r file wanted; do
 done < "$here/solved.txt"
 for problem in "$here"/*.problem "$here"/solve/*.problem "$here"/refuted/*.problem; do
   grep -q "^${problem#"$here"/}|" "$here/solved.txt" || fail "examples/solved.txt does not tell of ${problem#"$here"/}"
+done
+
+while IFS='|' read -r file wanted; do
+  case $file in '#'*|'') continue ;; esac
+  got=$("$solver" < "$here/slcomp/$file")
+  [ "${got%%$'\n'*}" = "$wanted" ] || fail "examples/slcomp/$file: solve answers '${got%%$'\n'*}', and not '$wanted'"
+done < "$here/slcomp/answers.txt"
+for script in "$here"/slcomp/*.smt2; do
+  grep -q "^$(basename "$script")|" "$here/slcomp/answers.txt" || fail "examples/slcomp/answers.txt does not tell of $(basename "$script")"
 done
 
 for model in "$here"/*.model "$here"/refuted/*.model; do

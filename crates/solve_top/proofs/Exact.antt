@@ -1,5 +1,5 @@
 -- Two answers to one input are alike.
-use Rattle.std.proofs.Common.{◌≡◌, ◌∙◌, ◌⊎◌, ap, arith, ℕ, List, length, inl, inr, refl, subst, sym, Bool, true, false}
+use Rattle.std.proofs.Common.{◌≡◌, ◌∙◌, ◌⊎◌, ap, arith, ℕ, List, inl, inr, subst, sym, Bool, true, false}
 use Rattle.std.proofs.Common.{Option, Some, None}
 use Rattle.std.specs.Prelude.{Result, Ok, Err}
 use Rattle.heap_formula.specs.declared.commands.Command.{Command}
@@ -27,9 +27,10 @@ use Rattle.solver.specs.declared.solution.Refutation.TheVariants.{CounterModel, 
 use Rattle.solver.specs.Runs.{IsRight}
 use Rattle.solver.specs.Solutions.{Holds, IsSolution}
 use Rattle.solver.proofs.SameRuns.{same_right, turned_run}
+use Rattle.script_answers.specs.Begins.{is_script_text}
 use Rattle.solve_top.specs.Inputs.{is_run_text}
-use Rattle.solve_top.specs.Answers.{EndAlike, IsAnswerTo, IsAnswerWith, IsProblemAnswer, IsRerun, IsRunAnswer, IsSaid}
-use Rattle.solve_top.specs.Answers.{IsSolved, has_answered}
+use Rattle.solve_top.specs.Answers.{EndAlike, IsAnswerTo, IsAnswerWith, IsInputAnswer, IsProblemAnswer, IsRerun}
+use Rattle.solve_top.specs.Answers.{IsRunAnswer, IsSaid, IsSolved, has_answered}
 
 -- ---- yes, no, or that nothing is known
 
@@ -110,19 +111,25 @@ kinds_alike false input s t xs ys first second =
     problems_alike first.0 second.0 s t xs ys (one_problem_reading input first.0 second.0 first.1 second.1)
     first.2 second.2
 
-answers_alike : (input : List ℕ) (s t : Status) (xs ys : List ℕ) → IsAnswerOf IsSolved input s xs
-    → IsAnswerOf IsSolved input t ys → EndAlike s t
-answers_alike input s t xs ys (inl first) (inl second) = inl (first.1 ∙ sym second.1)
-answers_alike input s t xs ys (inr first) (inr second) = kinds_alike (is_run_text input)
-    input s t xs ys first.1 second.1
-answers_alike input s t xs ys (inl first) (inr second) = absurd (omega (arith, first.0, second.0))
-answers_alike input s t xs ys (inr first) (inl second) = absurd (omega (arith, first.0, second.0))
+no_scripts_alike : (b : Bool) (input : List ℕ) (s t : Status) (xs ys : List ℕ) → b ≡ false → IsInputAnswer b input s xs
+    → IsInputAnswer b input t ys → EndAlike s t
+no_scripts_alike true input s t xs ys plain first second = absurd (let h : true ≡ false = plain in cc)
+no_scripts_alike false input s t xs ys plain first second = kinds_alike (is_run_text input) input s t xs ys first second
+
+answers_alike : (input : List ℕ) (s t : Status) (xs ys : List ℕ) → is_script_text input ≡ false
+    → IsAnswerOf IsSolved input s xs → IsAnswerOf IsSolved input t ys → EndAlike s t
+answers_alike input s t xs ys plain (inl first) (inl second) = inl (first.1 ∙ sym second.1)
+answers_alike input s t xs ys plain (inr first) (inr second) = no_scripts_alike (is_script_text input)
+    input s t xs ys plain first.1 second.1
+answers_alike input s t xs ys plain (inl first) (inr second) = absurd (omega (arith, first.0, second.0))
+answers_alike input s t xs ys plain (inr first) (inl second) = absurd (omega (arith, first.0, second.0))
 
 -- a run that answered what was told ended as the told input is answered
 pub solved_alike : (told old new : Option (List ℕ)) (input : List ℕ) (s t : Status) (ys : List ℕ) → told ≡ Some input
-    → IsAnswerOf IsSolved input t ys → WroteAnswer (IsAnswerOf IsSolved) told old new s → EndAlike s t
-solved_alike told old new input s t ys e expected wrote =
-    answers_alike input s t wrote.0 ys
+    → IsAnswerOf IsSolved input t ys → is_script_text input ≡ false → WroteAnswer (IsAnswerOf IsSolved) told old new s
+    → EndAlike s t
+solved_alike told old new input s t ys e expected plain wrote =
+    answers_alike input s t wrote.0 ys plain
     (subst (λ i. IsAnswerOf IsSolved i s wrote.0) (sym (told_is told input wrote.1.0 e wrote.1.1)) wrote.1.2) expected
 
 -- the usage is answered in one way

@@ -1,5 +1,5 @@
 -- What is answered to words.
-use Rattle.std.proofs.Common.{◌≡◌, ℕ, List, Option, Some, None, refl, sym, subst}
+use Rattle.std.proofs.Common.{◌≡◌, ℕ, false, List, Option, Some, None, refl, sym, subst}
 use Rattle.std.specs.Io.KnownBytes.{Appends}
 use Rattle.cyc_io.specs.Bytes.{AppendsProperPrefix}
 use Rattle.cyc_runs.specs.Runs.{IsAnswerOf, WroteAnswer, WrotePart}
@@ -7,6 +7,7 @@ use Rattle.cyc_runs.specs.declared.endings.Status.{Status}
 use Rattle.cyc_runs.specs.declared.endings.Status.TheVariants.{Usage}
 use Rattle.cyc_runs.proofs.Told.{some_told}
 use Rattle.solve_top.specs.Answers.{EndAlike, IsAnswer, IsAnswerWith, IsSolved, usage_text}
+use Rattle.script_answers.specs.Begins.{is_script_text}
 use Rattle.solve_top.specs.Words.{effort_of}
 use Rattle.solve_top.proofs.Exact.{solved_alike, usage_alike}
 
@@ -22,9 +23,11 @@ module _ (words : List (List ℕ)) (told old new : Option (List ℕ)) where
   effort_part effort is wrote = subst (λ (e : Option ℕ). WrotePart (IsAnswerWith e) told old new) (sym is) wrote
 
   pub effort_ends : (effort : ℕ) (input : List ℕ) (s t : Status) (ys : List ℕ) → effort_of words ≡ Some effort
-      → told ≡ Some input → IsAnswer words input t ys → WroteAnswer (IsAnswerOf IsSolved) told old new s → EndAlike s t
-  effort_ends effort input s t ys is e expected wrote =
-      solved_alike told old new input s t ys e (subst (λ (o : Option ℕ). IsAnswerWith o input t ys) is expected) wrote
+      → told ≡ Some input → IsAnswer words input t ys → is_script_text input ≡ false
+      → WroteAnswer (IsAnswerOf IsSolved) told old new s → EndAlike s t
+  effort_ends effort input s t ys is e expected plain wrote =
+      solved_alike told old new input s t ys e (subst (λ (o : Option ℕ). IsAnswerWith o input t ys) is expected)
+      plain wrote
 
   -- words without a meaning were answered by the usage
   pub usage_wrote : (ending : Status) → effort_of words ≡ None → (ending ≡ Usage) × Appends old new usage_text

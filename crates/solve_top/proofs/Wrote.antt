@@ -1,9 +1,7 @@
 -- What a run has written that ends with success, or with a refusal.
-use Rattle.std.proofs.Common.{◌≡◌, ◌⊎◌, ℕ, List, ◌++◌, sym, inl, inr, Bool, true, false, Option, Some, None}
+use Rattle.std.proofs.Common.{◌≡◌, ◌⊎◌, ℕ, List, ◌++◌, refl, inl, inr, Bool, true, false, Option}
 use Rattle.std.specs.Prelude.{Result, Ok, Err}
-use Rattle.std.specs.Io.KnownBytes.{Appends}
 use Rattle.cyc_lex.specs.declared.fault.ReadFault.{ReadFault}
-use Rattle.cyc_runs.specs.declared.endings.Status.{Status}
 use Rattle.cyc_runs.specs.declared.endings.Status.TheVariants as status
 use Rattle.cyc_runs.specs.Runs.{IsAnswerOf, WroteAnswer}
 use Rattle.cyc_runs.proofs.WaysToEnd.{fault_fails, fault_is_no_refusal}
@@ -25,11 +23,13 @@ use Rattle.solver.specs.declared.solution.Refutation.TheVariants.{CounterModel, 
 use Rattle.solver.specs.declared.solution.Solution.{Solution}
 use Rattle.solver.specs.declared.solution.Solution.TheVariants.{Proved, Impossible, Refuted, Unknown}
 use Rattle.solver.specs.Solutions.{IsCheckedProof, IsCounterModel, IsFaultyRun, IsRefutation, IsSolution}
+use Rattle.script_answers.specs.Begins.{is_script_text}
 use Rattle.solve_top.specs.Inputs.{is_run_text}
-use Rattle.solve_top.specs.Answers.{IsAnswerTo, IsCertified, IsProblemAnswer, IsRerun, IsRunAnswer, IsSaid, IsSolved}
-use Rattle.solve_top.specs.Answers.{fails_line, holds_line, proof_text, run_text, text_of_refutation}
+use Rattle.solve_top.specs.Answers.{IsAnswerTo, IsCertified, IsInputAnswer, IsProblemAnswer, IsRerun, IsRunAnswer}
+use Rattle.solve_top.specs.Answers.{IsSaid, IsSolved, fails_line, holds_line, proof_text, run_text, text_of_refutation}
 use Rattle.solve_top.specs.Written.{GoalFails, GoalHolds, IsModelText, IsProofText, IsRunText, RunFails, RunHolds}
-use Rattle.solve_top.specs.Written.{WroteFails, WroteHolds}
+use Rattle.solve_top.specs.Written.{ScriptIsSolved, WroteFails, WroteHolds}
+use Rattle.solve_top.proofs.ScriptLaws.{script_is_solved}
 
 -- ---- certificates are read
 
@@ -99,10 +99,18 @@ either_holds : (b : Bool) (input text : List ℕ) → IsAnswerTo b input status.
 either_holds true input text answer = inr (run_holds input text answer.0 answer.1 answer.2)
 either_holds false input text answer = inl (problem_holds input text answer.0 answer.1 answer.2)
 
+any_holds : (b : Bool) (input text : List ℕ) → is_script_text input ≡ b → IsInputAnswer b input status.Success text
+    → GoalHolds input text ⊎ (RunHolds input ⊎ ScriptIsSolved input text)
+any_holds true input text is answer = inr (inr (script_is_solved input text status.Success is refl (inl refl) answer))
+any_holds false input text is answer =
+    elim (either_holds (is_run_text input) input text answer) as
+    (λ _. GoalHolds input text ⊎ (RunHolds input ⊎ ScriptIsSolved input text))
+    [ inl goal ↦ inl goal | inr run ↦ inr (inl run) ]
+
 input_holds : (input text : List ℕ) → IsAnswerOf IsSolved input status.Success text
-    → GoalHolds input text ⊎ RunHolds input
+    → GoalHolds input text ⊎ (RunHolds input ⊎ ScriptIsSolved input text)
 input_holds input text (inl long) = absurd (let h : status.Success ≡ status.Limit = long.1 in cc)
-input_holds input text (inr solved) = either_holds (is_run_text input) input text solved.1
+input_holds input text (inr solved) = any_holds (is_script_text input) input text refl solved.1
 
 pub wrote_holds : (told old new : Option (List ℕ)) → WroteAnswer (IsAnswerOf IsSolved) told old new status.Success
     → WroteHolds told old new
@@ -149,10 +157,18 @@ either_fails : (b : Bool) (input text : List ℕ) → IsAnswerTo b input status.
 either_fails true input text answer = inr (run_fails input text answer.0 answer.1 answer.2)
 either_fails false input text answer = inl (problem_fails input text answer.0 answer.1 answer.2)
 
+any_fails : (b : Bool) (input text : List ℕ) → is_script_text input ≡ b → IsInputAnswer b input status.Refused text
+    → GoalFails input text ⊎ (RunFails input ⊎ ScriptIsSolved input text)
+any_fails true input text is answer = inr (inr (script_is_solved input text status.Refused is refl (inr refl) answer))
+any_fails false input text is answer =
+    elim (either_fails (is_run_text input) input text answer) as
+    (λ _. GoalFails input text ⊎ (RunFails input ⊎ ScriptIsSolved input text))
+    [ inl goal ↦ inl goal | inr run ↦ inr (inl run) ]
+
 input_fails : (input text : List ℕ) → IsAnswerOf IsSolved input status.Refused text
-    → GoalFails input text ⊎ RunFails input
+    → GoalFails input text ⊎ (RunFails input ⊎ ScriptIsSolved input text)
 input_fails input text (inl long) = absurd (let h : status.Refused ≡ status.Limit = long.1 in cc)
-input_fails input text (inr solved) = either_fails (is_run_text input) input text solved.1
+input_fails input text (inr solved) = any_fails (is_script_text input) input text refl solved.1
 
 pub wrote_fails : (told old new : Option (List ℕ)) → WroteAnswer (IsAnswerOf IsSolved) told old new status.Refused
     → WroteFails told old new

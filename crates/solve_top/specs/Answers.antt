@@ -1,4 +1,4 @@
--- The answer to a problem, to a run and to words.
+-- The answer to a problem, to a run, to a script and to words.
 use Rattle.std.specs.Prelude.{◌≡◌, ◌≢◌, ◌≤◌, ◌⊎◌, ℕ, Bool, true, false, List, [], ◌++◌, length, codes, Option, Some}
 use Rattle.std.specs.Prelude.{None, Result, Ok, Err}
 use Rattle.cyc_lex.specs.declared.fault.ReadFault.{ReadFault}
@@ -9,10 +9,16 @@ use Rattle.cyc_runs.specs.Faults.{fault_status, fault_text}
 use Rattle.cyc_runs.specs.Runs.{Answering, IsAnswerOf, input_limit}
 use Rattle.formula_reader.specs.declared.problem.Problem.{Problem}
 use Rattle.formula_reader.specs.Reading as problems
+use Rattle.heap_formula.specs.declared.judgements.Judgement.{Judgement}
+use Rattle.heap_formula.specs.declared.judgements.Judgement.TheVariants.{Entail, Term as Halting}
 use Rattle.model_file.specs.Written.{text_of_model}
 use Rattle.proof_file.specs.declared.file.ProofFile.{ProofFile}
 use Rattle.proof_file.specs.Written.{text_of_file}
 use Rattle.run_file.specs.declared.file.RunFile.{RunFile}
+use Rattle.command_answers.specs.Answers.{IsPossible}
+use Rattle.script_answers.specs.Refusals.{is_refusal}
+use Rattle.script_formulas.specs.declared.goals.question.Question.{Question}
+use Rattle.script_formulas.specs.declared.goals.question.Question.TheVariants.{Entailment, Satisfiability}
 use Rattle.run_file.specs.Reading as runs
 use Rattle.run_file.specs.Written.{text_of_run}
 use Rattle.solve_top.specs.Notes.{AreNotes}
@@ -22,6 +28,7 @@ use Rattle.solver.specs.declared.solution.Solution.{Solution}
 use Rattle.solver.specs.declared.solution.Solution.TheVariants.{Proved, Impossible, Refuted, Unknown}
 use Rattle.solver.specs.Runs.{IsRight}
 use Rattle.solver.specs.Solutions.{IsSolution}
+use Rattle.script_answers.specs.Begins.{is_script_text}
 use Rattle.solve_top.specs.Inputs.{is_run_text}
 use Rattle.solve_top.specs.Words.{effort_of}
 
@@ -94,6 +101,65 @@ abbrev pub IsRunAnswer : Result RunFile ReadFault → Status → List ℕ → Ty
 IsRunAnswer (Ok r) ending text = IsRerun r ending text
 IsRunAnswer (Err fault) ending text = IsExplained fault ending text
 
+-- ---- scripts
+
+abbrev pub unsat_line : List ℕ
+unsat_line = codes "unsat\n"
+
+abbrev pub sat_line : List ℕ
+sat_line = codes "sat\n"
+
+-- how a run ends that says so of a script with this question: an entailment that holds is unsatisfiable
+abbrev pub unsat_status : Question → Status
+unsat_status Entailment = status.Success
+unsat_status Satisfiability = status.Refused
+
+abbrev pub sat_status : Question → Status
+sat_status Entailment = status.Refused
+sat_status Satisfiability = status.Success
+
+-- the text is the first line, notes, the text of a problem, and the certificate
+pub record IsAsked (first problem certificate text : List ℕ) : Type 0 where
+  pub notes : List ℕ
+  pub are_notes : AreNotes notes
+  pub is : text ≡ first ++ (notes ++ (problem ++ certificate))
+
+-- how what is found of the problem with this text is told
+abbrev pub IsScriptSaid : Question → List ℕ → Solution → Status → List ℕ → Type 0
+IsScriptSaid question spelled (Proved found) ending text = (ending ≡ unsat_status question)
+    × IsAsked unsat_line spelled (proof_text found.file) text
+IsScriptSaid question spelled Impossible ending text = (ending ≡ unsat_status question)
+    × IsAsked unsat_line spelled [] text
+IsScriptSaid question spelled (Refuted refutation) ending text = (ending ≡ sat_status question)
+    × IsAsked sat_line spelled (text_of_refutation refutation) text
+IsScriptSaid question spelled (Unknown stuck) ending text = (ending ≡ status.NotFound)
+    × IsAsked unknown_line spelled [] text
+
+-- some stack and heap satisfy the antecedent of the problem that asks a satisfiability, or none do, and this is told
+abbrev pub IsPossibilitySaid : Question → Problem → List ℕ → Status → List ℕ → Type 0
+IsPossibilitySaid Entailment problem spelled ending text = ⊥
+IsPossibilitySaid Satisfiability problem spelled ending text =
+    (IsPossible problem × (ending ≡ status.Success) × IsAsked sat_line spelled [] text)
+    ⊎ ((¬ IsPossible problem) × (ending ≡ status.Refused) × IsAsked unsat_line spelled [] text)
+
+abbrev pub is_entailment : Judgement → Bool
+is_entailment (Entail a bs) = true
+is_entailment (Halting i a) = false
+
+-- the text of a problem is told, and what is found of it
+pub record IsSolvedScript (ending : Status) (text : List ℕ) : Type 0 where
+  pub question : Question
+  pub problem : Problem
+  pub spelled : List ℕ
+  pub is_problem : problems.IsRead spelled (Ok problem)
+  pub said : ((found : Solution) × IsSolution problem found × (is_entailment problem.goal ≡ true)
+      × IsScriptSaid question spelled found ending text) ⊎ IsPossibilitySaid question problem spelled ending text
+
+-- a script is refused, or the problem is told that it became. That the problem asks what the script asks is not said
+-- here
+abbrev pub IsScriptAnswer : Status → List ℕ → Type 0
+IsScriptAnswer ending text = (is_refusal ending ≡ true) ⊎ IsSolvedScript ending text
+
 -- ---- inputs and words
 
 -- an input that begins as a run file is read as one, any other as a problem
@@ -103,8 +169,13 @@ IsAnswerTo true input ending text =
 IsAnswerTo false input ending text =
     (read : Result Problem ReadFault) × problems.IsRead input read × IsProblemAnswer read ending text
 
+-- an input that begins as a script is read as one
+abbrev pub IsInputAnswer : Bool → List ℕ → Status → List ℕ → Type 0
+IsInputAnswer true input ending text = IsScriptAnswer ending text
+IsInputAnswer false input ending text = IsAnswerTo (is_run_text input) input ending text
+
 abbrev pub IsSolved : Answering
-IsSolved input ending text = (length input ≤ input_limit) × IsAnswerTo (is_run_text input) input ending text
+IsSolved input ending text = (length input ≤ input_limit) × IsInputAnswer (is_script_text input) input ending text
 
 -- words that ask for an effort have the input solved; all others give the usage
 abbrev pub IsAnswerWith : Option ℕ → Answering

@@ -3,4 +3,5 @@ pub mod Lines
 pub mod Words
 pub mod Inputs
 pub mod Answers
+pub mod Possibilities
 pub mod Written

@@ -1,5 +1,5 @@
 -- What is written with success, and what with a refusal.
-use Rattle.std.specs.Prelude.{◌≡◌, ◌⊎◌, ℕ, List, [], ◌++◌, Option, Ok}
+use Rattle.std.specs.Prelude.{◌≡◌, ◌⊎◌, ℕ, List, [], ◌++◌, Option, Ok, true}
 use Rattle.std.specs.Io.KnownBytes.{Appends}
 use Rattle.cyc_runs.specs.Runs.{IsTold}
 use Rattle.formula_reader.specs.declared.problem.Problem.{Problem}
@@ -12,7 +12,10 @@ use Rattle.run_file.specs.declared.file.RunFile.{RunFile}
 use Rattle.run_file.specs.Reading as runs
 use Rattle.solver.specs.Runs.{IsRight}
 use Rattle.solver.specs.Solutions.{Holds, IsCheckedProof, IsCounterModel, IsFaultyRun, IsImpossible}
-use Rattle.solve_top.specs.Answers.{IsCertified, fails_line, holds_line, impossible_line}
+use Rattle.command_answers.specs.Answers.{IsPossible}
+use Rattle.solve_top.specs.Notes.{AreNotes}
+use Rattle.solve_top.specs.Answers.{IsCertified, fails_line, holds_line, impossible_line, sat_line, unsat_line}
+use Rattle.script_answers.specs.Begins.{is_script_text}
 
 -- after the first line the text spells a proof of the goal that a check accepts
 pub record IsProofText (problem : Problem) (text : List ℕ) : Type 0 where
@@ -68,15 +71,60 @@ pub record RunFails (input : List ℕ) : Type 0 where
   pub is_run : runs.IsRead input (Ok run)
   pub wrong : ¬ IsRight run
 
+-- after the first line and notes the text of a problem, and then the certificate
+pub record IsOverProblem (first text : List ℕ) (problem : Problem) (certificate : List ℕ) : Type 0 where
+  pub notes : List ℕ
+  pub are_notes : AreNotes notes
+  pub spelled : List ℕ
+  pub is_problem : problems.IsRead spelled (Ok problem)
+  pub is : text ≡ first ++ (notes ++ (spelled ++ certificate))
+
+-- a proof of the problem that a check accepts is the certificate; or nothing satisfies the antecedent, and none is
+-- there
+abbrev pub ShowsHolding : Problem → List ℕ → Type 0
+ShowsHolding problem certificate =
+    ((f : ProofFile) × IsCheckedProof problem f × files.IsRead certificate (Ok f))
+    ⊎ ((¬ IsPossible problem) × (certificate ≡ []))
+
+-- a model of the antecedent and of no disjunct is the certificate; or something satisfies the antecedent, and none is
+-- there
+abbrev pub ShowsModel : Problem → List ℕ → Type 0
+ShowsModel problem certificate =
+    ((m : Model) × IsCounterModel problem m × models.IsRead certificate (Ok m))
+    ⊎ (IsPossible problem × (certificate ≡ []))
+
+-- after `unsat` the text of a problem stands whose goal holds, and what shows it
+pub record IsUnsatText (text : List ℕ) : Type 0 where
+  pub problem : Problem
+  pub certificate : List ℕ
+  pub over : IsOverProblem unsat_line text problem certificate
+  pub holds : Holds problem
+  pub shown : ShowsHolding problem certificate
+
+-- after `sat` the text of a problem stands whose antecedent something satisfies, and what shows it
+pub record IsSatText (text : List ℕ) : Type 0 where
+  pub problem : Problem
+  pub certificate : List ℕ
+  pub over : IsOverProblem sat_line text problem certificate
+  pub possible : IsPossible problem
+  pub shown : ShowsModel problem certificate
+
+-- the input begins as a script, and the text is one of these
+pub record ScriptIsSolved (input text : List ℕ) : Type 0 where
+  pub script : is_script_text input ≡ true
+  pub shown : IsUnsatText text ⊎ IsSatText text
+
 -- some input, which is the one that was told, and a text that was written stand to each other so
 abbrev pub WroteSo : (List ℕ → List ℕ → Type 0) → Option (List ℕ) → Option (List ℕ) → Option (List ℕ) → Type 0
 WroteSo Stand told old new =
     (input : List ℕ) × (text : List ℕ) × IsTold told input × Appends old new text × Stand input text
 
--- the goal of the problem holds, and what was written shows it; or the run is as its file tells
+-- the goal of the problem holds, and what was written shows it; or the run is as its file tells; or a script became a
+-- problem, and what was written shows that this holds, or that its antecedent can be satisfied
 abbrev pub WroteHolds : Option (List ℕ) → Option (List ℕ) → Option (List ℕ) → Type 0
-WroteHolds = WroteSo (λ input text. GoalHolds input text ⊎ RunHolds input)
+WroteHolds = WroteSo (λ input text. GoalHolds input text ⊎ (RunHolds input ⊎ ScriptIsSolved input text))
 
--- the goal of the problem does not hold, and what was written shows it; or the run is not as its file tells
+-- the goal of the problem does not hold, and what was written shows it; or the run is not as its file tells; or the
+-- same of a script
 abbrev pub WroteFails : Option (List ℕ) → Option (List ℕ) → Option (List ℕ) → Type 0
-WroteFails = WroteSo (λ input text. GoalFails input text ⊎ RunFails input)
+WroteFails = WroteSo (λ input text. GoalFails input text ⊎ (RunFails input ⊎ ScriptIsSolved input text))

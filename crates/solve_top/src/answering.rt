@@ -7,10 +7,12 @@ ghost use Rattle.solve_top.specs.Answers.{IsAnswerTo, IsProblemAnswer};
 use crate::answers::{answer_to_run, answer_to_solution, answer_to_text};
 use crate::inputs::is_run_text;
 use crate::notes::notes_on;
+use crate::scripts::answer_to_script;
 use cyc_basics::memory::OutOfMemory;
 use cyc_runs::{Answer, Tool};
 use formula_reader::{Problem, read_problem};
 use run_file::read_run;
+use script_answers::is_script;
 use solver::solve;
 use std::alloc::Global;
 
@@ -52,7 +54,7 @@ fn answer_to_run_text(alloc: Global, input: &[u8]) -> Result<Answer, OutOfMemory
     }
 }
 
-/// The answer to a problem, with an effort from 1 to 9, or to a run.
+/// The answer to a problem or to a script, with an effort from 1 to 9, or to a run.
 #[derive(Clone, Copy)]
 pub struct Solver {
     pub effort: u32,
@@ -64,7 +66,9 @@ impl Tool for Solver {
     ghost answers = { λ solver. IsSolved };
 
     fn answer(&self, alloc: Global, input: &[u8]) -> Result<Answer, OutOfMemory> {
-        if is_run_text(alloc, input)? {
+        if is_script(input) {
+            answer_to_script(alloc, input, self.effort)
+        } else if is_run_text(alloc, input)? {
             answer_to_run_text(alloc, input)
         } else {
             answer_to_problem_text(alloc, input, self.effort)

@@ -31,7 +31,7 @@ fn certified(
 }
 
 /// The file of a refutation.
-fn refuting_text(alloc: Global, refutation: &Refutation) -> Result<Vec<u8>, OutOfMemory>
+pub fn refuting_text(alloc: Global, refutation: &Refutation) -> Result<Vec<u8>, OutOfMemory>
     ensures { IfOk result (λ text. text.items ≡ text_of_refutation refutation.now) }
 {
     match refutation {

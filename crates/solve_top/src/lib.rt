@@ -1,14 +1,15 @@
 //! The top call of `solve`: words and a source of bytes in, one word, a certificate and a status out. Does a problem's
 //! goal hold? The answer is a proof, a counter-model, or a run that shows that the program does not halt; or that
-//! nothing is known.
+//! nothing is known. A script of the field's competition becomes a problem first.
 #![tactic(auto)]
 
-ghost use Rattle.std.specs.Prelude.{◌≡◌, ◌+◌, ◌≤◌, ◌⊎◌, ℕ, List, Some, None, IsSome, map, string_bytes, true};
+ghost use Rattle.std.specs.Prelude.{◌≡◌, ◌+◌, ◌≤◌, ◌⊎◌, ℕ, List, Some, None, IsSome, map, string_bytes, true, false};
 ghost use Rattle.cyc_io.specs.Bytes.{CameAtMost};
 ghost use Rattle.cyc_io.specs.Causes.{Rose};
 ghost use Rattle.cyc_runs.specs.Endings.{is_answer};
 ghost use Rattle.cyc_runs.specs.Runs.{IsReadThrough, WroteAnswer, WrotePart, input_limit};
 ghost use Rattle.solve_top.specs.Answers.{EndAlike, IsAnswer};
+ghost use Rattle.script_answers.specs.Begins.{is_script_text};
 ghost use Rattle.solve_top.specs.Words.{effort_of as effort_by};
 ghost use Rattle.solve_top.specs.Written.{WroteHolds, WroteFails};
 
@@ -17,7 +18,9 @@ mod answers;
 pub mod explanations;
 mod inputs;
 mod notes;
+mod possibilities;
 mod program;
+mod scripts;
 mod words;
 
 use answering::Solver;
@@ -31,23 +34,26 @@ use words::effort_of;
 /// The line for words that have no meaning.
 const USAGE: &str = "usage: solve [--effort N]\n";
 
-/// Answers the problem or the run that the source holds, with the effort that the words ask for. The first line has one
-/// word, or says why the input cannot be read; notes and a certificate follow. The whole text is made before its first
-/// byte is written.
+/// Answers the problem, the run or the script that the source holds, with the effort that the words ask for. The first
+/// line has one word, or says why the input cannot be read; notes and a certificate follow. The whole text is made
+/// before its first byte is written.
 pub fn run<S: Source, K: Sink>(alloc: Global, words: &[String], src: &mut S, out: &mut K) -> Status
     // The text of the answer to the words and to the bytes that the source told was written, whole.
     ensures answered { is_answer result ≡ true → WroteAnswer (IsAnswer (map string_bytes words.now))
         (S.left src.old) (K.written out.old) (K.written out.new) result }
     // Where the words have this answer for the told bytes, the run ends so, unless a read or a write fails; but of a
-    // problem no more is said than that it is answered, and that no two answers contradict each other.
+    // problem no more is said than that it is answered, and that no two answers contradict each other; and of a script
+    // nothing.
     ensures exact { (input : List ℕ) (status : Status) (text : List ℕ) → S.left src.old ≡ Some input
-        → IsAnswer (map string_bytes words.now) input status text
+        → IsAnswer (map string_bytes words.now) input status text → is_script_text input ≡ false
         → ¬ Rose (S.faults src.old) (S.faults src.new) → ¬ Rose (K.faults out.old) (K.faults out.new)
         → EndAlike result status ⊎ (result ≡ Status.OutOfMemory) }
-    // The goal of the problem holds, and what was written shows it; or the run is as its file tells.
+    // The goal of the problem holds, and what was written shows it; or the run is as its file tells; or a script became
+    // a problem, and what was written shows what is said of that.
     ensures headline { result ≡ Status.Success
         → WroteHolds (S.left src.old) (K.written out.old) (K.written out.new) }
-    // The goal of the problem does not hold, and what was written shows it; or the run is not as its file tells.
+    // The goal of the problem does not hold, and what was written shows it; or the run is not as its file tells; or the
+    // same of a script.
     ensures refutation { result ≡ Status.Refused
         → WroteFails (S.left src.old) (K.written out.old) (K.written out.new) }
     ensures through { is_answer result ≡ true → IsSome (effort_by (map string_bytes words.now))

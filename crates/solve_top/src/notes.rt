@@ -229,6 +229,22 @@ fn add_finding(
     }
 }
 
+/// Notes that stand between the first line and the problem that a script became.
+pub fn notes_on_script(
+    alloc: Global,
+    text: &[u8],
+    problem: &Problem,
+    solution: &Solution,
+    effort: u32,
+) -> Result<Notes, OutOfMemory>
+    requires { length text.now ≤ input_limit }
+{
+    let names = names_in(alloc, text)?;
+    let mut notes = Notes::new(alloc);
+    add_finding(alloc, &mut notes, problem, &names, solution, effort)?;
+    Ok(notes)
+}
+
 /// Notes that stand between the first line and the certificate.
 pub fn notes_on(
     alloc: Global,

@@ -15,6 +15,8 @@ mod fo_file_written_tests;
 #[cfg(test)]
 mod fo_moves_tests;
 #[cfg(test)]
+mod given;
+#[cfg(test)]
 mod long_list_tests;
 #[cfg(test)]
 mod model_file_tests;
@@ -24,5 +26,9 @@ mod node_reasons_tests;
 mod proof_graph_tests;
 #[cfg(test)]
 mod run_file_tests;
+#[cfg(test)]
+mod script_problems_tests;
+#[cfg(test)]
+mod script_reader_tests;
 #[cfg(test)]
 mod texts;

@@ -16,11 +16,11 @@ returns-in-Some-clause-answered g c h =
     (sym c.in-Some.ensures) (c.run_over.ensures.answered h)
 
 pub returns-in-Some-clause-exact : goal.returns-in-Some-clause-exact
-returns-in-Some-clause-exact g c input ending text told answer quiet no_faults =
+returns-in-Some-clause-exact g c input ending text told answer plain quiet no_faults =
     ended_so _ _ _ _ _ c.run_over.ensures.answered (λ e. (c.run_over.ensures.read_fault e).0)
     (λ e. (c.run_over.ensures.write_fault e).0) quiet no_faults
     (effort_ends (map string_bytes c.args.words.now) _ _ _ c.in-Some.effort input _ ending text (sym c.in-Some.ensures)
-    told answer)
+    told answer plain)
 
 pub returns-in-Some-clause-headline : goal.returns-in-Some-clause-headline
 returns-in-Some-clause-headline g c h =
@@ -54,7 +54,7 @@ returns-in-None-clause-answered g c h =
     (c.give_made.ensures.whole Usage usage_text c.fixed_answer.ensures h)
 
 pub returns-in-None-clause-exact : goal.returns-in-None-clause-exact
-returns-in-None-clause-exact g c input ending text told answer quiet no_faults =
+returns-in-None-clause-exact g c input ending text told answer _ quiet no_faults =
     ended_so _ _ _ _ _ (c.give_made.ensures.whole Usage usage_text c.fixed_answer.ensures)
     (λ e. absurd (c.give_made.ensures.read_fault e)) c.give_made.ensures.cause quiet no_faults
     (λ wrote. usage_ends (map string_bytes c.args.words.now) (g.S.Source.left c.args.src.now)

@@ -1,0 +1,10 @@
+pub mod SortedHeaps
+pub mod Answers
+pub mod Extending
+pub mod Fine
+pub mod JoinedCases
+pub mod SameMeaning
+pub mod Stacks
+pub mod SideSteps
+pub mod Zipping
+pub mod GoalSteps

@@ -1,0 +1,5 @@
+use Rattle.script_formulas.specs.Defining.{HasMore}
+use Rattle.script_formulas.proofs.goals.building.Building.finished.Given as goal
+
+abbrev pub invariant-loop-part : goal.invariant-loop-part
+invariant-loop-part l = HasMore l.initial.building.defs.list l.building.defs.list

@@ -1,0 +1,12 @@
+pub mod Formulas
+pub mod Heaps
+pub mod Meaning
+pub mod Cases
+pub mod Forms
+pub mod Holding
+pub mod Joining
+pub mod Scope
+pub mod Shifting
+pub mod Sides
+pub mod Translating
+pub mod Defining

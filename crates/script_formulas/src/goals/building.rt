@@ -1,0 +1,220 @@
+// Definitions of a problem.
+ghost use Rattle.std.specs.Prelude.{◌≡◌, ◌<◌, [], ◌∷◌, length, IfOk, OnOk};
+ghost use Rattle.script_formulas.specs.Translating.{impossible};
+ghost use Rattle.script_formulas.specs.Defining.{HasPushed, HasDefined, HasMore};
+
+use crate::cases::{Refused, Unsupported};
+use crate::goals::names::free_name;
+use cyc_basics::limits::{MOST_ARGUMENTS, MOST_CASES, MOST_SPATIAL};
+use heap_formula::{Args, Heap, Pure, Spatial, Term};
+use pred_defs::Defs;
+use std::alloc::Global;
+
+/// The heap of nothing: `nil` is not `nil`.
+pub fn false_heap(alloc: Global) -> Result<Heap, Refused>
+    ensures { IfOk result (λ h. h ≡ impossible) }
+{
+    let mut pure = Vec::new(alloc);
+    pure.push(Pure::Neq(Term::Nil, Term::Nil))?;
+    let pure = pure;
+    if pure.len() > 64 {
+        return Err(Refused::OutOfMemory);
+    }
+    Ok(Heap::from_lists(pure, Vec::new(alloc)))
+}
+
+/// Sixteen or fewer of the cases of a predicate, which get a predicate of their own.
+#[derive(Drop)]
+struct Part {
+    owner: String,
+    arity: usize,
+    heaps: Vec<Heap>,
+}
+
+/// Definitions under way. Parts of cases come behind the definitions that they are parts of.
+#[derive(Drop)]
+pub struct Building {
+    alloc: Global,
+    defs: Defs,
+    names: Vec<String>,
+    most: usize,
+    parts: Vec<Part>,
+}
+
+/// The parameters of a predicate.
+fn parameters(count: usize) -> Args {
+    let mut made = [Term::Nil; 8];
+    for place in 0..8 {
+        made[place] = Term::Univ(place as u16);
+    }
+    if count <= 8 {
+        Args::from_slice(&made[..count])
+    } else {
+        Args::from_slice(&made)
+    }
+}
+
+impl Building {
+    /// No definitions, where so many will come before parts of cases.
+    pub fn new(alloc: Global, most: usize) -> Building
+        ensures { result.defs.list ≡ [] }
+    {
+        Building {
+            alloc,
+            defs: Defs::new(alloc, MOST_SPATIAL as u8),
+            names: Vec::new(alloc),
+            most,
+            parts: Vec::new(alloc),
+        }
+    }
+
+    /// How many definitions there are.
+    pub fn count(&self) -> usize
+        ensures { result ≡ length self.now.defs.list }
+    {
+        self.defs.as_slice().len()
+    }
+
+    /// Keeps a name like this one for the next definition.
+    pub fn name(&mut self, wanted: &str) -> Result<(), Refused>
+        ensures { OnOk result (self.new.defs ≡ self.old.defs) }
+    {
+        let name = free_name(self.alloc, &self.names, wanted)?;
+        self.names.push(name)?;
+        Ok(())
+    }
+
+    fn push_few(&mut self, arity: usize, heaps: &[Heap]) -> Result<(), Refused>
+        ensures { OnOk result (HasPushed self.old.defs.list arity heaps.now self.new.defs.list) }
+    {
+        let place = self.defs.as_slice().len();
+        let Some(name) = self.names.get(place) else {
+            return Err(Refused::Unsupported(Unsupported::Predicates));
+        };
+        if heaps.is_empty() {
+            return Err(Refused::Unsupported(Unsupported::Cases));
+        }
+        if arity > MOST_ARGUMENTS {
+            return Err(Refused::Unsupported(Unsupported::Parameters));
+        }
+        match self.defs.push(name.as_str(), arity as u32, heaps) {
+            Ok(()) => Ok(()),
+            Err(_) => Err(Refused::OutOfMemory),
+        }
+    }
+
+    /// The call of the part that comes next.
+    fn next_part(&self, arity: usize) -> Result<Heap, Refused> {
+        let number = self.most.saturating_add(self.parts.len());
+        if number >= 4096 {
+            return Err(Refused::Unsupported(Unsupported::Predicates));
+        }
+        let mut spatial = Vec::new(self.alloc);
+        spatial.push(Spatial::Pred(number as u16, parameters(arity)))?;
+        if spatial.len() > 32 {
+            return Err(Refused::OutOfMemory);
+        }
+        Ok(Heap::from_lists(Vec::new(self.alloc), spatial))
+    }
+
+    fn push_part(
+        &mut self,
+        calls: &mut Vec<Heap>,
+        owner: &str,
+        arity: usize,
+        heaps: Vec<Heap>,
+    ) -> Result<(), Refused>
+        ensures { OnOk result (self.new.defs ≡ self.old.defs) }
+    {
+        calls.push(self.next_part(arity)?)?;
+        let owner = String::from_str(self.alloc, owner)?;
+        self.parts.push(Part {
+            owner,
+            arity,
+            heaps,
+        })?;
+        Ok(())
+    }
+
+    /// Parts of sixteen cases, and the calls of them.
+    fn spread(&mut self, owner: &str, arity: usize, heaps: Vec<Heap>) -> Result<Vec<Heap>, Refused>
+        ensures { IfOk result (λ _. self.new.defs ≡ self.old.defs) }
+    {
+        let mut calls = Vec::new(self.alloc);
+        let mut part = Vec::new(self.alloc);
+        for heap in heaps {
+            if part.len() >= MOST_CASES {
+                self.push_part(&mut calls, owner, arity, part)?;
+                part = Vec::new(self.alloc);
+            }
+            part.push(heap)?;
+        }
+        self.push_part(&mut calls, owner, arity, part)?;
+        Ok(calls)
+    }
+
+    fn define_false(&mut self, arity: usize) -> Result<(), Refused>
+        ensures { OnOk result (HasPushed self.old.defs.list arity (impossible ∷ []) self.new.defs.list) }
+    {
+        let mut heaps = Vec::new(self.alloc);
+        heaps.push(false_heap(self.alloc)?)?;
+        self.push_few(arity, &heaps)
+    }
+
+    fn define_spread(&mut self, owner: &str, arity: usize, heaps: Vec<Heap>) -> Result<(), Refused>
+        requires { MOST_CASES < length heaps.items }
+        ensures { OnOk result (HasDefined self.old.defs.list arity heaps.items self.new.defs.list) }
+    {
+        let calls = self.spread(owner, arity, heaps)?;
+        if calls.len() > MOST_CASES {
+            return Err(Refused::Unsupported(Unsupported::Cases));
+        }
+        self.push_few(arity, &calls)
+    }
+
+    /// Appends a definition with these cases; where there are none, it has a false one.
+    pub fn define(&mut self, owner: &str, arity: usize, heaps: Vec<Heap>) -> Result<(), Refused>
+        ensures { OnOk result (HasDefined self.old.defs.list arity heaps.items self.new.defs.list) }
+    {
+        let count = heaps.len();
+        if count == 0 {
+            return self.define_false(arity);
+        }
+        if count <= MOST_CASES {
+            return self.push_few(arity, &heaps);
+        }
+        self.define_spread(owner, arity, heaps)
+    }
+
+    /// The definitions, with the parts behind them.
+    pub fn finished(self) -> Result<Defs, Refused>
+        ensures { IfOk result (λ defs. HasMore self.defs.list defs.list) }
+    {
+        let Building {
+            alloc,
+            defs,
+            names,
+            most,
+            parts,
+        } = self;
+        let mut building = Building {
+            alloc,
+            defs,
+            names,
+            most,
+            parts: Vec::new(alloc),
+        };
+        for part in &parts {
+            building.name(part.owner.as_str())?;
+            building.push_few(part.arity, &part.heaps)?;
+        }
+        let Building {
+            alloc: _,
+            defs,
+            names: _,
+            most: _,
+            parts: _,
+        } = building;
+        Ok(defs)
+    }
+}

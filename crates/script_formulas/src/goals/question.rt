@@ -1,0 +1,23 @@
+// What a script asks, as a goal.
+use heap_formula::Judgement;
+use pred_defs::Defs;
+
+/// How the goal asks what the script does: the script can be satisfied exactly where the goal does not hold; or exactly
+/// where its antecedent can be satisfied, and the succedent is false.
+#[derive(Clone, Copy, Debug, PartialEq, Eq)]
+pub enum Question {
+    Entailment,
+    Satisfiability,
+}
+
+/// Definitions and a goal, and how it asks what the script does. In the goal `Univ(n)` is the script's constant n, and
+/// the numbers behind the constants are quantified variables. The first predicates are those of the script with the
+/// numbers in
+/// `predicates`; others stand behind them.
+#[derive(Drop)]
+pub struct ScriptGoal {
+    pub question: Question,
+    pub defs: Defs,
+    pub goal: Judgement,
+    pub predicates: Vec<u16>,
+}

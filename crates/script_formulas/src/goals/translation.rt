@@ -1,0 +1,208 @@
+// A script as definitions and a goal.
+ghost use Rattle.std.specs.Prelude.{◌≡◌, ◌≤◌, [], map, length, IfOk, OnOk};
+ghost use Rattle.std.specs.List.{list_any};
+ghost use Rattle.script_formulas.specs.Formulas.{formula_of};
+ghost use Rattle.script_formulas.specs.Translating.{AreToldApart};
+ghost use Rattle.script_formulas.specs.Defining.{HasBody, AreDefinedIn, IsJudgement, IsAsked, IsGoalOf};
+
+use crate::cases::{Case, Refused, Unsupported};
+use crate::goals::antecedents::{Sides, cases_at, sides_of};
+use crate::goals::building::Building;
+use crate::goals::heaps::{Numbers, Variables, heaps_of};
+use crate::goals::question::{Question, ScriptGoal};
+use crate::goals::reached::{Reached, reached_in};
+use crate::goals::refusal::{Place, ScriptRefusal, at};
+use crate::goals::succedents::{antecedent_of, succedent_of};
+use crate::goals::widths::widths_of;
+use crate::{Predicate, Script};
+use heap_formula::Judgement;
+use std::alloc::Global;
+
+fn has_open(cases: &[Case]) -> bool
+    ensures { result ≡ list_any (λ c. c.any_heap) cases.now }
+{
+    cases.iter().any(|case| case.any_heap())
+}
+
+/// The numbers of the predicates that are used, in order.
+fn used_predicates(alloc: Global, script: &Script, reached: &Reached) -> Result<Vec<u16>, Refused> {
+    let mut numbers = Vec::new(alloc);
+    for place in 0..script.predicates.len() {
+        if reached.has_predicate(place) {
+            if place >= 65535 || numbers.len() >= 4096 {
+                return Err(Refused::Unsupported(Unsupported::Predicates));
+            }
+            numbers.push(place as u16)?;
+        }
+    }
+    Ok(numbers)
+}
+
+fn fields_of(alloc: Global, script: &Script) -> Result<Vec<usize>, Refused>
+    ensures { IfOk result (λ ns. ns.items ≡ map (λ c. length c.fields.items) script.now.constructors.items) }
+{
+    let mut fields = Vec::new(alloc);
+    for constructor in &script.constructors {
+        fields.push(constructor.fields.len())?;
+    }
+    Ok(fields)
+}
+
+fn numbers_of(alloc: Global, script: &Script) -> Result<Numbers, Refused>
+    ensures fields { IfOk result (λ numbers. numbers.fields.items
+        ≡ map (λ c. length c.fields.items) script.now.constructors.items) }
+    ensures told { IfOk result (λ numbers. AreToldApart numbers.widths.items) }
+{
+    let reached = reached_in(alloc, script)?;
+    let fields = fields_of(alloc, script)?;
+    let widths = widths_of(alloc, &script.constructors, &reached)?;
+    let predicates = used_predicates(alloc, script, &reached)?;
+    Ok(Numbers {
+        fields,
+        widths,
+        predicates,
+    })
+}
+
+fn define_predicate(
+    alloc: Global,
+    building: &mut Building,
+    numbers: &Numbers,
+    place: Place,
+    predicate: &Predicate,
+) -> Result<(), ScriptRefusal>
+    ensures { OnOk result (HasBody numbers.now (length predicate.now.parameters.items)
+        (formula_of predicate.now.body) building.old.defs.list building.new.defs.list) }
+{
+    let arity = predicate.parameters.len();
+    if arity > 8 {
+        return Err(ScriptRefusal::Unsupported(place, Unsupported::Parameters));
+    }
+    let cases = cases_at(alloc, place, &predicate.body)?;
+    if has_open(&cases) {
+        return Err(ScriptRefusal::Unsupported(place, Unsupported::OpenHeap));
+    }
+    let variables = Variables::Known(arity as u16);
+    let heaps = at(place, heaps_of(alloc, numbers, variables, &cases))?;
+    at(
+        place,
+        building.define(predicate.name.as_str(), arity, heaps),
+    )?;
+    Ok(())
+}
+
+fn name_predicates(
+    building: &mut Building,
+    script: &Script,
+    numbers: &Numbers,
+) -> Result<(), Refused>
+    ensures { OnOk result (building.new.defs ≡ building.old.defs) }
+{
+    for number in &numbers.predicates {
+        if let Some(predicate) = script.predicates.get(*number as usize) {
+            building.name(predicate.name.as_str())?;
+        }
+    }
+    Ok(())
+}
+
+fn define_predicates(
+    alloc: Global,
+    building: &mut Building,
+    script: &Script,
+    numbers: &Numbers,
+) -> Result<(), ScriptRefusal>
+    requires { building.old.defs.list ≡ [] }
+    ensures { OnOk result (AreDefinedIn script.now.predicates.items numbers.now numbers.now.predicates.items
+        building.new.defs.list) }
+{
+    for number in &numbers.predicates {
+        let place = Place::Predicate(*number as usize);
+        let Some(predicate) = script.predicates.get(*number as usize) else {
+            return Err(ScriptRefusal::Unsupported(place, Unsupported::Unbound));
+        };
+        define_predicate(alloc, building, numbers, place, predicate)?;
+    }
+    Ok(())
+}
+
+/// The definitions of the predicates that are used; there may be one more, which the antecedent calls.
+fn definitions_of(
+    alloc: Global,
+    script: &Script,
+    numbers: &Numbers,
+    has_disjunction: bool,
+) -> Result<Building, ScriptRefusal>
+    ensures { IfOk result (λ building. AreDefinedIn script.now.predicates.items numbers.now
+        numbers.now.predicates.items building.defs.list) }
+{
+    let extra = if has_disjunction { 1 } else { 0 };
+    let most = numbers.predicates.len().saturating_add(extra);
+    let mut building = Building::new(alloc, most);
+    at(
+        Place::Whole,
+        name_predicates(&mut building, script, numbers),
+    )?;
+    if has_disjunction {
+        at(Place::Whole, building.name("antecedent"))?;
+    }
+    define_predicates(alloc, &mut building, script, numbers)?;
+    Ok(building)
+}
+
+fn judgement_of(
+    alloc: Global,
+    building: &mut Building,
+    numbers: &Numbers,
+    constants: usize,
+    sides: &Sides,
+) -> Result<Judgement, Refused>
+    ensures { IfOk result (λ goal. IsJudgement numbers.now constants sides.now.asserted.items sides.now.denied.items
+        building.old.defs.list building.new.defs.list goal) }
+{
+    if constants >= 65535 {
+        return Err(Refused::Unsupported(Unsupported::Variables));
+    }
+    let constants = constants as u16;
+    let antecedent = antecedent_of(alloc, building, numbers, constants, &sides.asserted)?;
+    let succedent = succedent_of(alloc, numbers, constants, &sides.denied)?;
+    Ok(Judgement::Entail(antecedent, succedent))
+}
+
+fn question_of(asserted: &[Case], denied: &[Case]) -> Result<Question, ScriptRefusal>
+    ensures { IfOk result (λ question. IsAsked question asserted.now denied.now) }
+{
+    let count = denied.len();
+    if count == 0 {
+        return Ok(Question::Satisfiability);
+    }
+    if has_open(asserted) {
+        return Err(ScriptRefusal::Unsupported(Place::Whole, Unsupported::OpenHeap));
+    }
+    Ok(Question::Entailment)
+}
+
+/// The goal that asks what the script does, or the first cause found why there is none.
+pub fn goal_of_script(alloc: Global, script: &Script) -> Result<ScriptGoal, ScriptRefusal>
+    ensures { IfOk result (λ g. IsGoalOf script.now g.question g.defs.list g.goal g.predicates.items) }
+{
+    let sides = sides_of(alloc, script)?;
+    let question = question_of(&sides.asserted, &sides.denied)?;
+    let numbers = at(Place::Whole, numbers_of(alloc, script))?;
+    let mut building = definitions_of(alloc, script, &numbers, sides.asserted.len() > 1)?;
+    let constants = script.constants.len();
+    let goal = judgement_of(alloc, &mut building, &numbers, constants, &sides);
+    let goal = at(Place::Whole, goal)?;
+    let defs = at(Place::Whole, building.finished())?;
+    let Numbers {
+        fields: _,
+        widths: _,
+        predicates,
+    } = numbers;
+    Ok(ScriptGoal {
+        question,
+        defs,
+        goal,
+        predicates,
+    })
+}

@@ -1,0 +1,9 @@
+pub mod Texts
+pub mod Skipping
+pub mod Unfit
+pub mod Built
+pub mod Growing
+pub mod Named
+pub mod Asking
+pub mod Clipping
+pub mod Standing

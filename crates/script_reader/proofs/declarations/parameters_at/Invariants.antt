@@ -1,0 +1,5 @@
+use Rattle.std.proofs.Common.{◌-◌}
+use Rattle.script_reader.proofs.declarations.parameters_at.Given as goal
+
+abbrev pub decreases-items : goal.decreases-items
+decreases-items l = l.items.end - l.items.next

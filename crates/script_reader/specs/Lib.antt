@@ -1,0 +1,11 @@
+pub mod Bytes
+pub mod Pieces
+pub mod Tokens
+pub mod Faults
+pub mod Forests
+pub mod Partials
+pub mod Words
+pub mod Atoms
+pub mod Commands
+pub mod Telling
+pub mod Weight

@@ -1,0 +1,73 @@
+; A list that is not empty has a last cell.
+(set-logic QF_SHID)
+
+(set-info :source |
+Q.-T. Ta, T. C. Le, S.-C. Khoo, and W.-N. Chin. Automated Lemma Synthesis in Symbolic-Heap Separation Logic. POPL 2018.
+Not a file of SL-COMP: written again from memory, in the manner of its family.
+|)
+(set-info :smt-lib-version 2.6)
+(set-info :category "crafted")
+(set-info :status unsat)
+(set-info :version "2026-11-30")
+
+; truth: induction; the last cell is that of the rest
+
+; Sorts for locations
+(declare-sort RefSll_t 0)
+
+; Types of cells
+(declare-datatypes (
+	(Sll_t 0)
+	) (
+	((c_Sll_t (next RefSll_t)))
+	)
+)
+
+; Type of heap
+(declare-heap (RefSll_t Sll_t)
+)
+
+; User-defined predicates
+(define-fun-rec ll ((x RefSll_t) (l RefSll_t) (o RefSll_t)) Bool
+	(or
+		(and
+			(= x l)
+			(pto x (c_Sll_t o))
+		)
+		(exists ((u RefSll_t))
+			(sep
+				(pto x (c_Sll_t u))
+				(ll u l o)
+			)
+		)
+	)
+)
+
+(define-fun-rec lsp ((x RefSll_t) (y RefSll_t)) Bool
+	(or
+		(pto x (c_Sll_t y))
+		(exists ((u RefSll_t))
+			(sep
+				(pto x (c_Sll_t u))
+				(lsp u y)
+			)
+		)
+	)
+)
+
+
+;; variables
+(declare-const x RefSll_t)
+(declare-const o RefSll_t)
+
+(assert
+	(lsp x o)
+)
+
+(assert (not
+	(exists ((l RefSll_t))
+		(ll x l o)
+	)
+))
+
+(check-sat)
