@@ -4,6 +4,7 @@ from concurrent.futures import ProcessPoolExecutor
 import array
 import fcntl
 import os
+import re
 import subprocess
 import sys
 import termios
@@ -19,6 +20,7 @@ import pieces
 import problems
 import rules
 import searches
+import versions
 import words
 
 program = os.path.abspath(sys.argv[1])
@@ -53,6 +55,7 @@ def rows():
     for text, status, line in first_order.DEAD_TOKENS_OF_PROBLEMS:
         yield "fo", text, status, line
     yield from limits.rows()
+    yield from versions.rows()
     for theory, status, line in first_order.NINTH:
         yield "fo-check", first_order.proof(theory), status, line
         yield "fo", first_order.problem(theory), status, line
@@ -93,17 +96,23 @@ def answer(command, text, size=None):
         return ran.returncode, written
 
 
+def is_said(wanted, written):
+    """Returns whether this was to be written: a text, whose end may lack its line feed, or what a pattern says."""
+    if isinstance(wanted, re.Pattern):
+        return bool(wanted.fullmatch(written))
+    return written == (wanted if wanted.endswith(b"\n") else wanted + b"\n")
+
+
 def fault(row):
     """Returns how the program, or for a check the checker too, answers otherwise, or None."""
     said, text, status, written, sizes = row
     line = said.split() if isinstance(said, str) else said
-    wanted = written if written.endswith(b"\n") else written + b"\n"
     for command in [[program, *line]] + [[checker]] * (line == ["check"]):
         for size in sizes:
             got = answer(command, text, size)
-            if got != (status, wanted):
+            if got[0] != status or not is_said(written, got[1]):
                 shown = f"{' '.join([os.path.basename(command[0]), *command[1:]])} < {text[:60]!r}, {size or 'all'} at a time"
-                return f"{shown}: status {got[0]}, {got[1][:200]!r}; wanted status {status}, {wanted[:200]!r}"
+                return f"{shown}: status {got[0]}, {got[1][:200]!r}; wanted status {status}, {str(written)[:200]}"
     return None
 
 

@@ -55,7 +55,7 @@ turns() { # ATOMS NODES: so many atoms, and nodes before the two ways part
         same = same (i ? " " : "") i
         round = round (i ? " " : "") (n - 1 - i)
       }
-      print "cyclist proof 1;\npred e(0) { true : e() };"
+      print "cyclist proof " (n > 32 ? 3 : n > 16 ? 2 : 1) ";\npred e(0) { true : e() };"
       for (i = 0; i < k; i++) node(k - i, "", "Weaken 0 to " i + 1)
       node(0, "", "Split $0 $1 to " k + 1 " " k + 3)
       node(0, "$0 = $1", "Unfold 0 to " k + 2)
@@ -132,4 +132,21 @@ show() { # NAME WORD..
   /usr/bin/time -q -f '%e %M' -o "$work/time" "$program" "$@" < "$work/file" > "$work/answer"
   read -r spent kilobytes < "$work/time"
   printf '%-36s %8.2f s %6d MB  %s\n' "$name" "$spent" "$((kilobytes / 1024))" "$(head -n 1 "$work/answer")"
+}
+
+wide_ring() { # K ATOMS: K predicates, each of which is the next one, beside atoms that stay: traces follow the last of so many atoms
+  awk -v K="$1" -v n="$2" '
+    function node(i, reason) { printf "node true : %sp%d() |- true : emp by %s;\n", beside, i % K, reason }
+    BEGIN {
+      print "cyclist proof " (n > 32 ? 3 : n > 16 ? 2 : 1) ";"
+      for (i = 0; i < K; i++) printf "pred p%d(0) { true : p%d() };\n", i, (i + 1) % K
+      print "pred e(0) { true : emp };"
+      for (i = 0; i < n; i++) {
+        if (i) beside = beside "e() * "
+        places = places (i ? " " : "") i
+      }
+      for (i = 0; i < K; i++) node(i, "Unfold " n - 1 " to " i + 1)
+      node(0, "Link 0 { } [" places "] [0]")
+      print "end;"
+    }'
 }

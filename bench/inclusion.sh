@@ -30,3 +30,10 @@ for row in '8 7819' '9 17931' '10 40459' '11 90123' '12 198667'; do
 done
 turns 12 5 > "$work/file"
 measure 'turns 12 +1' 221196
+# As many atoms as the versions of the formats allow: rings whose traces follow the last atom, and turns, which pass the limit of states.
+for atoms in 16 32 60; do
+  wide_ring 2000 "$atoms" > "$work/file"
+  measure "wide ring $atoms" 2001
+  turns "$atoms" 4 > "$work/file"
+  measure "turns $atoms" 200000
+done

@@ -175,7 +175,7 @@ TOKENS = [
 GRAMMAR = [
     (b"cyclist", 3, b"unreadable syntax token 1 line 1 column 8"),
     (
-        b"cyclist proof 3;\n"
+        b"cyclist proof 4;\n"
         b"node true : emp |- true : emp by Done;\n"
         b"end;\n",
         3, b"unreadable syntax token 2 line 1 column 15",
@@ -742,7 +742,7 @@ VERSIONS = [
         0, b"accepted entailment nodes 3 links 0",
     ),
     (
-        b"cyclist proof 3;\n"
+        b"cyclist proof 4;\n"
         b"node true : emp |- true : emp by Done;\n"
         b"end;\n",
         3, b"unreadable syntax token 2 line 1 column 15",
@@ -1339,7 +1339,7 @@ DEAD_TOKENS = [
     # no version's number
     (b"cyclist proof 01;", 3, b"unreadable syntax token 2 line 1 column 15"),
     (b"cyclist proof 02;", 3, b"unreadable syntax token 2 line 1 column 15"),
-    (b"cyclist proof 3;", 3, b"unreadable syntax token 2 line 1 column 15"),
+    (b"cyclist proof 4;", 3, b"unreadable syntax token 2 line 1 column 15"),
     (b"cyclist proof 0;", 3, b"unreadable syntax token 2 line 1 column 15"),
     (b"cyclist proof 12;", 3, b"unreadable syntax token 2 line 1 column 15"),
     (b"cyclist proof two;", 3, b"unreadable syntax token 2 line 1 column 15"),

@@ -233,7 +233,7 @@ FAULTY = [
 DEAD_TOKENS = [
     (b"cyclist proof 1;", 3, b"unreadable syntax token 1 line 1 column 9"),
     (b"cyclist problem 2;", 3, b"unreadable syntax token 4 line 1 column 19"),
-    (b"cyclist problem 3;", 3, b"unreadable syntax token 2 line 1 column 17"),
+    (b"cyclist problem 4;", 3, b"unreadable syntax token 2 line 1 column 17"),
     (b"cyclist problem 02;", 3, b"unreadable syntax token 2 line 1 column 17"),
     (
         b"cyclist problem 1;\n"

@@ -5,6 +5,7 @@ ghost use Rattle.rule_table.specs.LinkTable.{all_equated as terms_equated, match
 ghost use Rattle.rule_table.specs.LinkTable.{pure_fault as first_pure_fault, spatial_fault as first_spatial_fault};
 ghost use Rattle.rule_table.specs.Tests.{has_number};
 
+use cyc_basics::limits::{MOST_PURE, MOST_SPATIAL};
 use heap_formula::{Pure, RuleFault, Spatial, Subst, Term, apply_to_pure, apply_to_spatial};
 use rule_table::{equated, follows, is_among};
 
@@ -38,7 +39,7 @@ fn matches(pures: &[Pure], x: &Spatial, y: &Spatial) -> bool
 
 /// The first pure atom of the companion that does not follow in the bud.
 pub fn pure_fault(pures: &[Pure], subst: &Subst, atoms: &[Pure]) -> Option<RuleFault>
-    requires { length atoms.now ≤ 64 }
+    requires { length atoms.now ≤ MOST_PURE }
     ensures { result ≡ first_pure_fault pures.now 0 (map (apply_pure subst.now) atoms.now) }
 {
     for (k, x) in atoms.iter().enumerate() {
@@ -83,7 +84,7 @@ pub fn spatial_fault(
     subst: &Subst,
     xs: &[Spatial],
 ) -> Option<RuleFault>
-    requires { length xs.now ≤ 32 }
+    requires { length xs.now ≤ MOST_SPATIAL }
     ensures { result
         ≡ first_spatial_fault pures.now atoms.now whole [] 0 entries.now (map (apply_spatial subst.now) xs.now) }
 {

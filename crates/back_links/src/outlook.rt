@@ -13,6 +13,7 @@ use crate::covering::disjuncts;
 use crate::prospects::{
     Search, could_follow, could_match, could_match_at, could_send, known_pure, start_of,
 };
+use cyc_basics::limits::MOST_SPATIAL;
 use heap_formula::{Heap, OutOfMemory, Pure, Spatial, Term};
 use rule_table::{antecedent, is_among};
 use std::alloc::Global;
@@ -106,7 +107,7 @@ fn could_lie(
     places: &[u32],
     x: &Spatial,
 ) -> bool
-    requires { length atoms.now ≤ 32 }
+    requires { length atoms.now ≤ MOST_SPATIAL }
     ensures { result ≡ lies pures.now atoms.now pairs.now places.now x.now }
 {
     for m in 0..atoms.len() {
@@ -150,7 +151,7 @@ fn could_fill_each(
     places: &[u32],
     xs: &[Spatial],
 ) -> bool
-    requires { length atoms.now ≤ 32 }
+    requires { length atoms.now ≤ MOST_SPATIAL }
     ensures { result ≡ fills_each pures.now atoms.now pairs.now places.now xs.now }
 {
     for m in 0..atoms.len() {
@@ -168,7 +169,7 @@ fn could_lie_those(
     places: &[u32],
     xs: &[Spatial],
 ) -> bool
-    requires { length atoms.now ≤ 32 }
+    requires { length atoms.now ≤ MOST_SPATIAL }
     ensures { result ≡ list_all (lies pures.now atoms.now pairs.now places.now) xs.now }
 {
     for x in xs {
@@ -189,7 +190,7 @@ fn could_lie_each(
     xs: &[Spatial],
     whole: bool,
 ) -> bool
-    requires { length atoms.now ≤ 32 }
+    requires { length atoms.now ≤ MOST_SPATIAL }
     ensures { result ≡ lie_each pures.now atoms.now pairs.now places.now xs.now whole }
 {
     if !could_lie_those(pures, atoms, pairs, places, xs) {

@@ -11,9 +11,10 @@ use Rattle.std.proofs.lemmas.List.{drop_all, drop_more}
 use Rattle.std.proofs.lemmas.Nat.{one_shl}
 use Rattle.std.proofs.lemmas.Nat.Bits.{bit_at-lt, bit_at_not, bit_at_ones, bit_at-pow_same, bit_at-pow_other}
 use Rattle.std.proofs.lemmas.Nat.Bits.{same_from_bits_below}
-use Rattle.std.specs.Int.{w32}
+use Rattle.std.specs.Int.{w64}
 use Rattle.buchi_core.specs.Forest.{IsPositionSet, has, places, is_filled}
 use Rattle.buchi_core.specs.View.{members}
+use Rattle.cyc_basics.specs.declared.limits.TheConstants.{MOST_POSITIONS}
 use Rattle.cyc_basics.specs.Bits.{is_one}
 use Rattle.cyc_basics.proofs.Bits.{one_or, one_zero}
 use Rattle.std.proofs.Math.Bool.{or-false}
@@ -68,28 +69,28 @@ has_inside f i (suc n) q a b =
           elim (cases_Bool (f i)) [ inl y ↦ rw (y, ne) r | inr y ↦ rw y r ])
     ]
 
-pub has_members : (m q : ℕ) → q < 32 → has (members m) q ≡ is_one m q
+pub has_members : (m q : ℕ) → q < MOST_POSITIONS → has (members m) q ≡ is_one m q
 unfolding members
-has_members m q l = has_inside (is_one m) 0 32 q (omega arith) l
+has_members m q l = has_inside (is_one m) 0 MOST_POSITIONS q (omega arith) l
 
-pub has_members_not : (m q : ℕ) → 32 ≤ q → has (members m) q ≡ false
+pub has_members_not : (m q : ℕ) → MOST_POSITIONS ≤ q → has (members m) q ≡ false
 unfolding members
-has_members_not m q l = has_above (is_one m) 0 32 q l
+has_members_not m q l = has_above (is_one m) 0 MOST_POSITIONS q l
 
--- what a mask has is below 32, and is one of its ones
-pub member_is : (m q : ℕ) → has (members m) q ≡ true → (q < 32) × (is_one m q ≡ true)
+-- what a mask has is below MOST_POSITIONS, and is one of its ones
+pub member_is : (m q : ℕ) → has (members m) q ≡ true → (q < MOST_POSITIONS) × (is_one m q ≡ true)
 member_is m q h =
-    elim (cases_lt q 32) [
+    elim (cases_lt q MOST_POSITIONS) [
       | inl l ↦ (l, sym (has_members m q l) ∙ h)
       | inr g ↦ absurd (both_ways (has (members m) q) (has_members_not m q g) h)
     ]
 
 -- a mask whose ones are those of another that pass a test
-pub members_filter : (m n : ℕ) (f : ℕ → Bool) → ((q : ℕ) → q < 32 → is_one m q ≡ (is_one n q && f q))
+pub members_filter : (m n : ℕ) (f : ℕ → Bool) → ((q : ℕ) → q < MOST_POSITIONS → is_one m q ≡ (is_one n q && f q))
     → members m ≡ filter f (members n)
 unfolding members
-members_filter m n f h = places_agree (is_one m) (λ q. is_one n q && f q) 0 32 (λ q a b. h q b)
-    ∙ sym (places_filter f (is_one n) 0 32)
+members_filter m n f h = places_agree (is_one m) (λ q. is_one n q && f q) 0 MOST_POSITIONS (λ q a b. h q b)
+    ∙ sym (places_filter f (is_one n) 0 MOST_POSITIONS)
 
 -- ---- lists that rise
 abbrev Rising : ℕ → List ℕ → Type 0
@@ -147,10 +148,11 @@ places_rising (x ∷ xs) i (suc n) r b =
     ]
 
 -- a mask that has what a set of positions has stands for it
-pub members_set : (m : ℕ) (xs : List ℕ) → IsPositionSet xs → ((q : ℕ) → q < 32 → is_one m q ≡ has xs q) → members m ≡ xs
+pub members_set : (m : ℕ) (xs : List ℕ) → IsPositionSet xs → ((q : ℕ) → q < MOST_POSITIONS → is_one m q ≡ has xs q)
+    → members m ≡ xs
 unfolding members
-members_set m xs s h = places_agree (is_one m) (has xs) 0 32 (λ q a b. h q b)
-    ∙ places_rising xs 0 32 (rising_start xs s.0) (λ q m. s.1 q m)
+members_set m xs s h = places_agree (is_one m) (has xs) 0 MOST_POSITIONS (λ q a b. h q b)
+    ∙ places_rising xs 0 MOST_POSITIONS (rising_start xs s.0) (λ q m. s.1 q m)
 
 -- ---- bits
 bit_cases : (x : ℕ) → x < 2 → (x ≡ 0) ⊎ (x ≡ 1)
@@ -163,19 +165,19 @@ small_not zero a = refl
 small_not (suc zero) a = refl
 small_not (suc (suc x)) a = absurd (omega arith)
 
-pub one_not : (m q : ℕ) → m < 2 ^ 32 → q < 32 → is_one (4294967295 - m) q ≡ not (is_one m q)
-one_not m q f l = ap (λ x. nat_eq x 1) (bit_at_not w32 m q f l) ∙ small_not (bit_at m q) (bit_at-lt m q)
+pub one_not : (m q : ℕ) → m < 2 ^ 64 → q < MOST_POSITIONS → is_one (18446744073709551615 - m) q ≡ not (is_one m q)
+one_not m q f l = ap (λ x. nat_eq x 1) (bit_at_not w64 m q f l) ∙ small_not (bit_at m q) (bit_at-lt m q)
 
-pub one_pow : (p q : ℕ) → p < 32 → is_one (1 * 2 ^ p % 4294967296) q ≡ nat_eq p q
+pub one_pow : (p q : ℕ) → p < MOST_POSITIONS → is_one (1 * 2 ^ p % 18446744073709551616) q ≡ nat_eq p q
 one_pow p q l =
-    ap (λ x. is_one x q) (one_shl p 32 l) ∙
+    ap (λ x. is_one x q) (one_shl p 64 l) ∙
     elim (cases_eq q p) [
       | inl e ↦ ap (λ x. nat_eq x 1) (ap (bit_at (2 ^ p)) e ∙ bit_at-pow_same p) ∙ sym (eq-eqb p q (sym e))
       | inr d ↦ ap (λ x. nat_eq x 1) (bit_at-pow_other p q d) ∙ sym (ne_eqb p q (λ e. d (sym e)))
     ]
 
-pub one_all : (q : ℕ) → q < 32 → is_one 4294967295 q ≡ true
-one_all q l = ap (λ x. nat_eq x 1) (bit_at_ones 32 q l)
+pub one_all : (q : ℕ) → q < MOST_POSITIONS → is_one 18446744073709551615 q ≡ true
+one_all q l = ap (λ x. nat_eq x 1) (bit_at_ones 64 q l)
 
 bit_is : (a b q : ℕ) → is_one a q ≡ is_one b q → bit_at a q ≡ bit_at b q
 bit_is a b q e =
@@ -193,14 +195,14 @@ bit_is a b q e =
     ]
 
 -- masks with the same ones are equal
-pub same_mask : (a b : ℕ) → a < 2 ^ 32 → b < 2 ^ 32 → ((q : ℕ) → q < 32 → is_one a q ≡ is_one b q) → a ≡ b
-same_mask a b la lb h = same_from_bits_below 32 a b la lb (λ q l. bit_is a b q (h q l))
+pub same_mask : (a b : ℕ) → a < 2 ^ 64 → b < 2 ^ 64 → ((q : ℕ) → q < MOST_POSITIONS → is_one a q ≡ is_one b q) → a ≡ b
+same_mask a b la lb h = same_from_bits_below 64 a b la lb (λ q l. bit_is a b q (h q l))
 
-pub same_members : (a b : ℕ) → a < 2 ^ 32 → b < 2 ^ 32 → members a ≡ members b → a ≡ b
+pub same_members : (a b : ℕ) → a < 2 ^ 64 → b < 2 ^ 64 → members a ≡ members b → a ≡ b
 same_members a b la lb e = same_mask a b la lb (λ q l. sym (has_members a q l)
     ∙ (ap (λ (z : List ℕ). has z q) e ∙ has_members b q l))
 
-pub no_ones : (m : ℕ) → m < 2 ^ 32 → ((q : ℕ) → q < 32 → is_one m q ≡ false) → m ≡ 0
+pub no_ones : (m : ℕ) → m < 2 ^ 64 → ((q : ℕ) → q < MOST_POSITIONS → is_one m q ≡ false) → m ≡ 0
 no_ones m l h = same_mask m 0 l (omega arith) (λ q k. h q k ∙ sym (one_zero q))
 
 pub filled_has : (xs : List ℕ) → is_filled xs ≡ true → (q : ℕ) × (has xs q ≡ true)
@@ -212,7 +214,7 @@ has_filled [] q h = absurd (both_ways false refl h)
 has_filled (x ∷ xs) q h = refl
 
 -- a mask is filled where it isn't 0
-pub filled_mask : (m : ℕ) → m < 2 ^ 32 → is_filled (members m) ≡ not (nat_eq m 0)
+pub filled_mask : (m : ℕ) → m < 2 ^ 64 → is_filled (members m) ≡ not (nat_eq m 0)
 filled_mask m l =
     elim (cases_Bool (is_filled (members m))) [
       | inl y ↦

@@ -7,6 +7,7 @@ use Rattle.std.proofs.lemmas.Option.{slice_get-map, slice_get_read}
 use Rattle.buchi_core.specs.Forest.{Entry as AgeEntry, is_kept, is_green, event_from, places, settled, renumbered}
 use Rattle.buchi_core.specs.Forest.{set_of, parent_of}
 use Rattle.buchi_core.specs.declared.entry.Entry.{Entry}
+use Rattle.buchi_core.specs.Mask.{set_mask}
 use Rattle.buchi_core.specs.View.{members, entry_of, entries_of}
 
 pub event_more : (entries : List AgeEntry) (i n : ℕ) → i < n → is_kept entries i ≡ true → is_green entries i ≡ false
@@ -37,7 +38,7 @@ place_skipped f keep xs i n l k =
 pub settled_item : (entries : List Entry) (i : ℕ) (e : Entry) → slice_get entries i ≡ Some e →
     settled (entries_of entries) i ≡ record {
       parent = renumbered (is_kept (entries_of entries)) e.parent;
-      set = members e.set;
+      set = members (set_mask e);
     }
 settled_item entries i e h =
     let g : slice_get (entries_of entries) i ≡ Some (entry_of e) = slice_get-map entry_of entries i
@@ -47,7 +48,7 @@ settled_item entries i e h =
 -- a turn of the drop's loop at an entry that stays, and at one that doesn't
 pub turn_kept : (entries old next : List Entry) (e item : Entry) (i j : ℕ) (whole : List AgeEntry) → j < length entries
     → i ≡ j → item ≡ get_or entries j item → next ≡ old ++ (e ∷ []) →
-    e.parent ≡ renumbered (is_kept (entries_of entries)) item.parent → e.set ≡ item.set
+    e.parent ≡ renumbered (is_kept (entries_of entries)) item.parent → set_mask e ≡ set_mask item
     → is_kept (entries_of entries) i ≡ true →
     entries_of old ++ map (settled (entries_of entries)) (places (is_kept (entries_of entries)) i (length entries - i))
     ≡ whole →

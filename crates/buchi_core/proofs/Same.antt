@@ -1,13 +1,16 @@
 -- Lists of entries are equal by `==` exactly where their plain data are.
-use Rattle.std.proofs.Common.{◌≡◌, ℕ, List, [], ◌∷◌, true, false, Option, Some, None, refl, ap, subst, eqb-true, nat_eq}
+use Rattle.std.proofs.Common.{◌≡◌, ℕ, ◌&&◌, List, [], ◌∷◌, true, false, Option, Some, None, refl, ap, subst, eqb-true}
+use Rattle.std.proofs.Common.{nat_eq, arith}
 use Rattle.std.proofs.lemmas.Bool.{and_parts, and_from, eq-eqb, both_ways}
 use Rattle.std.specs.Option.{option_eq}
 use Rattle.std.specs.Cmp.Lexicographic.{pointwise}
 use Rattle.buchi_core.specs.Forest.{Entry as AgeEntry}
 use Rattle.buchi_core.specs.declared.entry.Entry.{Entry}
+use Rattle.buchi_core.specs.Mask.{set_mask}
 use Rattle.buchi_core.specs.View.{members, entry_of, entries_of}
 use Rattle.buchi_core.specs.Equality.{entry_eq}
 use Rattle.buchi_core.proofs.Bits.{same_members}
+use Rattle.buchi_core.proofs.TwoHalves.{mask_fits, low_same, high_same}
 
 option_same : (x y : Option ℕ) → option_eq nat_eq x y ≡ true → x ≡ y
 option_same None None h = refl
@@ -21,18 +24,21 @@ option_refl (Some x) = eq-eqb x x refl
 
 entry_same : (x y : Entry) → entry_eq x y ≡ true → entry_of x ≡ entry_of y
 entry_same x y h =
-    let p = and_parts (option_eq nat_eq x.parent y.parent) (nat_eq x.set y.set) h in
+    let p = and_parts (option_eq nat_eq x.parent y.parent) (nat_eq x.low y.low && nat_eq x.high y.high) h in
+    let s = and_parts (nat_eq x.low y.low) (nat_eq x.high y.high) p.1 in
     let a = option_same x.parent y.parent p.0 in
-    let b : x.set ≡ y.set = eqb-true x.set y.set p.1 in
+    let b : set_mask x ≡ set_mask y = omega (arith, eqb-true x.low y.low s.0, eqb-true x.high y.high s.1) in
     λ i. record { parent = a i; set = members (b i) }
 
 entry_same_back : (x y : Entry) → entry_of x ≡ entry_of y → entry_eq x y ≡ true
 entry_same_back x y e =
     let a : x.parent ≡ y.parent = ap (λ (z : AgeEntry). z.parent) e in
-    let b : x.set ≡ y.set = same_members x.set y.set x.fits y.fits (ap (λ (z : AgeEntry). z.set) e) in
-    and_from (option_eq nat_eq x.parent y.parent) (nat_eq x.set y.set)
+    let b : set_mask x ≡ set_mask y = same_members (set_mask x) (set_mask y) (mask_fits x) (mask_fits y)
+    (ap (λ (z : AgeEntry). z.set) e) in
+    and_from (option_eq nat_eq x.parent y.parent) (nat_eq x.low y.low && nat_eq x.high y.high)
     (subst (λ z. option_eq nat_eq x.parent z ≡ true) a (option_refl x.parent))
-    (eq-eqb x.set y.set b)
+    (and_from (nat_eq x.low y.low) (nat_eq x.high y.high) (eq-eqb x.low y.low (low_same x y b))
+    (eq-eqb x.high y.high (high_same x y b)))
 
 pub all_same : (xs ys : List Entry) → pointwise entry_eq xs ys ≡ true → entries_of xs ≡ entries_of ys
 all_same [] [] h = refl

@@ -1,9 +1,14 @@
 -- Where pairs lead from each position, as masks.
-use Rattle.std.specs.Prelude.{ℕ, ◌≡◌, ◌<◌, List, [], ◌∷◌, length, get_or}
+use Rattle.std.specs.Prelude.{ℕ, ◌≡◌, ◌<◌, Bool, ◌&&◌, List, [], ◌∷◌, get_or}
 use Rattle.buchi_core.specs.Forest.{Pair, leads}
+use Rattle.buchi_core.specs.declared.leads.Leads.{Leads}
 use Rattle.cyc_basics.specs.Bits.{is_one}
+use Rattle.cyc_basics.specs.declared.limits.TheConstants.{MOST_POSITIONS}
 
--- the mask at each position has those that the pairs lead to from it
-pub record AreMoves (pairs : List Pair) (masks : List ℕ) : Type 0 where
-  pub long : length masks ≡ 32
-  pub right : (p q : ℕ) → p < 32 → q < 32 → is_one (get_or masks p 0) q ≡ leads pairs (p ∷ []) q
+-- some pair leads from p, and its mask has q
+abbrev pub leads_by : Leads → ℕ → ℕ → Bool
+leads_by l p q = is_one l.sources p && is_one (get_or l.targets p 0) q
+
+-- the masks have the positions that the pairs lead to
+abbrev pub AreMoves : List Pair → Leads → Type 0
+AreMoves pairs l = (p q : ℕ) → p < MOST_POSITIONS → q < MOST_POSITIONS → leads_by l p q ≡ leads pairs (p ∷ []) q

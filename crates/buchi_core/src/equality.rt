@@ -24,13 +24,16 @@ impl Eq for AgeForest {
     ghost laws = { forest_equiv };
 }
 
-/// An entry is hashed by its set alone: within a forest, the sets tell the parents.
+/// An entry is hashed by its set alone: within a forest, the sets tell the parents. An empty high half is left out.
 impl Hash for Entry {
     ghost hash_input = { entry_writes };
 
     ghost respects_eq = { Prim.search (hashing, rules) };
 
     fn hash<H: Hasher>(&self, state: &mut H) {
-        self.set.hash(state);
+        self.low.hash(state);
+        if self.high != 0 {
+            self.high.hash(state);
+        }
     }
 }

@@ -7,21 +7,23 @@ ghost use Rattle.buchi_core.specs.Moves.{AreMoves};
 ghost use Rattle.buchi_core.specs.View.{entries_of, members};
 ghost use Rattle.buchi_core.specs.Young.{AreLeft, made};
 
+use crate::age_forest::MOST_ENTRIES;
 use crate::entry::Entry;
-use crate::masks::{Moves, successors_of};
+use crate::leads::{Leads, Moves};
+use crate::masks::successors_of;
 use crate::young::{Young, clear, push_entry};
 
-/// Appends each entry with the successors of its set. The masks say where the pairs lead.
+/// Appends each entry with the successors of its set. The table says where the pairs lead.
 fn push_moved(
     young: &mut Young,
     _pairs: &[(u8, u8, bool)],
-    masks: &[u32; 32],
-    positions: u32,
+    leads: &Leads,
+    positions: u64,
     forest: &[Entry],
 )
-    requires masks { AreMoves _pairs.now masks.now }
-    requires few { length forest.now ≤ 32 }
-    requires room { array_vec_len young.old.entries ≤ 32 }
+    requires leads { AreMoves _pairs.now leads.now }
+    requires few { length forest.now ≤ MOST_ENTRIES }
+    requires room { array_vec_len young.old.entries ≤ MOST_ENTRIES }
     requires left { AreLeft young.old }
     ensures long { array_vec_len young.new.entries ≡ array_vec_len young.old.entries + length forest.now }
     ensures left { AreLeft young.new }
@@ -29,22 +31,22 @@ fn push_moved(
         ≡ scan_from trimmed (made young.old) (map (moved _pairs.now (members positions)) (entries_of forest.now)) }
 {
     for entry in forest {
-        let set = successors_of(masks, positions, entry.set);
+        let set = successors_of(leads, positions, entry.set());
         push_entry(young, entry.parent, set);
     }
 }
 
-/// Appends a youngest child of each entry. The masks say where the pairs that progress lead.
+/// Appends a youngest child of each entry. The table says where the pairs that progress lead.
 fn push_children(
     young: &mut Young,
     _pairs: &[(u8, u8, bool)],
-    masks: &[u32; 32],
-    positions: u32,
+    leads: &Leads,
+    positions: u64,
     forest: &[Entry],
 )
-    requires masks { AreMoves (progressing _pairs.now) masks.now }
-    requires few { length forest.now ≤ 32 }
-    requires room { array_vec_len young.old.entries ≤ 32 }
+    requires leads { AreMoves (progressing _pairs.now) leads.now }
+    requires few { length forest.now ≤ MOST_ENTRIES }
+    requires room { array_vec_len young.old.entries ≤ MOST_ENTRIES }
     requires left { AreLeft young.old }
     ensures long { array_vec_len young.new.entries ≡ array_vec_len young.old.entries + length forest.now }
     ensures left { AreLeft young.new }
@@ -53,7 +55,7 @@ fn push_children(
 {
     let mut number: u8 = 0;
     for entry in forest {
-        let set = successors_of(masks, positions, entry.set);
+        let set = successors_of(leads, positions, entry.set());
         push_entry(young, Some(number), set);
         number += 1;
     }
@@ -65,12 +67,12 @@ pub(crate) fn grow(
     young: &mut Young,
     _pairs: &[(u8, u8, bool)],
     moves: &Moves,
-    positions: u32,
+    positions: u64,
     forest: &[Entry],
 )
     requires all { AreMoves _pairs.now moves.now.all }
     requires progress { AreMoves (progressing _pairs.now) moves.now.progress }
-    requires few { length forest.now ≤ 32 }
+    requires few { length forest.now ≤ MOST_ENTRIES }
     ensures left { AreLeft young.new }
     ensures grown { made young.new ≡ before_drop _pairs.now (members positions) (entries_of forest.now) }
 {

@@ -7,6 +7,8 @@ mod entry;
 mod equality;
 mod event;
 mod grow;
+mod halves;
+mod leads;
 mod list;
 mod masks;
 mod settle;

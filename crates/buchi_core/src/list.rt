@@ -3,7 +3,7 @@
 ghost use Rattle.std.specs.Prelude.{◌≡◌, ◌<◌, [], ◌∷◌, ◌++◌, length};
 ghost use Rattle.buchi_core.specs.View.{entries_of, forest_of, used};
 
-use crate::age_forest::AgeForest;
+use crate::age_forest::{AgeForest, MOST_ENTRIES};
 use crate::entry::Entry;
 
 /// The forest without an entry.
@@ -13,8 +13,9 @@ pub(crate) fn empty() -> AgeForest
     AgeForest {
         entries: [Entry {
             parent: None,
-            set: 0,
-        }; 32],
+            low: 0,
+            high: 0,
+        }; MOST_ENTRIES],
         len: 0,
     }
 }
@@ -36,7 +37,7 @@ pub fn entries_in(forest: &AgeForest) -> &[Entry]
 
 /// Appends a youngest entry.
 pub(crate) fn append(forest: &mut AgeForest, entry: Entry)
-    requires room { length (used forest.old) < 32 }
+    requires room { length (used forest.old) < MOST_ENTRIES }
     ensures { used forest.new ≡ used forest.old ++ (entry ∷ []) }
 {
     let place = forest.len as usize;

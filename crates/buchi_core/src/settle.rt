@@ -6,11 +6,11 @@ ghost use Rattle.buchi_core.specs.Forest.{event_from};
 ghost use Rattle.buchi_core.specs.View.{entries_of, forest_of};
 ghost use Rattle.buchi_core.specs.Young.{AreLeft, made};
 
-use crate::age_forest::AgeForest;
+use crate::age_forest::{AgeForest, MOST_ENTRIES};
 use crate::entry::Entry;
 use crate::event::Event;
 use crate::list::{append, clear};
-use crate::young::{Young, left_at};
+use crate::young::{MOST_YOUNG, Young, left_at};
 use arrayvec::ArrayVec;
 
 /// Whether entry `place` isn't empty and is the union of its children.
@@ -20,7 +20,7 @@ fn is_full_at(young: &Young, place: u8) -> bool
 {
     match young.entries.get(place as usize) {
         None => false,
-        Some(entry) => entry.set != 0 && left_at(young, Some(place)) == 0,
+        Some(entry) => entry.set() != 0 && left_at(young, Some(place)) == 0,
     }
 }
 
@@ -46,7 +46,7 @@ fn is_lost_below(young: &Young, done: &[bool], parent: Option<u8>) -> bool
 }
 
 /// Finds which entries have a full ancestor.
-pub(crate) fn find_losses(done: &mut ArrayVec<bool, 65>, young: &Young)
+pub(crate) fn find_losses(done: &mut ArrayVec<bool, MOST_YOUNG>, young: &Young)
     requires left { AreLeft young.now }
     ensures { done.new.items ≡ losses (made young.now) }
 {
@@ -64,7 +64,7 @@ fn is_kept_at(entries: &[Entry], lost: &[bool], place: u8) -> bool
 {
     match entries.get(place as usize) {
         None => false,
-        Some(entry) => entry.set != 0 && !is_set_at(lost, place),
+        Some(entry) => entry.set() != 0 && !is_set_at(lost, place),
     }
 }
 
@@ -95,8 +95,8 @@ fn renumbered_of(entries: &[Entry], lost: &[bool], parent: Option<u8>) -> Option
 
 /// Makes the forest of the entries but those that are empty or have a full ancestor.
 pub(crate) fn settle_all(next: &mut AgeForest, entries: &[Entry], lost: &[bool])
-    requires short { length entries.now ≤ 65 }
-    requires few { length (settle (entries_of entries.now)) ≤ 32 }
+    requires short { length entries.now ≤ MOST_YOUNG }
+    requires few { length (settle (entries_of entries.now)) ≤ MOST_ENTRIES }
     requires lost { lost.now ≡ losses (entries_of entries.now) }
     ensures { forest_of next.new ≡ settle (entries_of entries.now) }
 {
@@ -107,7 +107,8 @@ pub(crate) fn settle_all(next: &mut AgeForest, entries: &[Entry], lost: &[bool])
             let parent = renumbered_of(entries, lost, entry.parent);
             let entry = Entry {
                 parent,
-                set: entry.set,
+                low: entry.low,
+                high: entry.high,
             };
             append(next, entry);
         }

@@ -9,11 +9,13 @@ use crate::age_forest::AgeForest;
 use crate::entry::Entry;
 use crate::event::Event;
 use crate::grow::grow;
+use crate::leads::{Moves, no_moves};
 use crate::list::{append, empty, entries_in};
-use crate::masks::{Moves, mask_of, no_moves, set_moves};
+use crate::masks::{mask_of, set_moves};
 use crate::settle::{event_at, find_losses, settle_all};
-use crate::young::{Young, no_entries};
+use crate::young::{MOST_YOUNG, Young, no_entries};
 use arrayvec::ArrayVec;
+use cyc_basics::limits::MOST_POSITIONS;
 
 /// The forest that a search begins with at a node of these positions: one entry with all of them, none if there are
 /// none.
@@ -26,7 +28,7 @@ pub fn start(positions: &[u8]) -> AgeForest
         return forest;
     }
     let set = mask_of(positions);
-    append(&mut forest, Entry { parent: None, set });
+    append(&mut forest, Entry::new(None, set));
     forest
 }
 
@@ -36,7 +38,7 @@ pub fn start(positions: &[u8]) -> AgeForest
 pub struct Stepper {
     pub(crate) moves: Moves,
     pub(crate) young: Young,
-    pub(crate) lost: ArrayVec<bool, 65>,
+    pub(crate) lost: ArrayVec<bool, MOST_YOUNG>,
     pub(crate) next: AgeForest,
 }
 
@@ -54,7 +56,7 @@ impl Default for Stepper {
 impl Stepper {
     /// Makes a step along an edge to a node, and gives its event: what `step` does from the forest of these entries.
     pub fn step(&mut self, forest: &[Entry], pairs: &[(u8, u8, bool)], positions: &[u8]) -> Event
-        requires short { length forest.now ≤ 32 }
+        requires short { length forest.now ≤ MOST_POSITIONS }
         requires positions { IsPositionSet positions.now }
         ensures forest { forest_in self.new ≡ next_forest pairs.now positions.now (entries_of forest.now) }
         ensures event { result ≡ event_of pairs.now positions.now (entries_of forest.now) }

@@ -5,26 +5,31 @@ ghost use Rattle.arrayvec.specs.ArrayVec.{array_vec_len};
 ghost use Rattle.buchi_core.specs.Forest.{same_parent, trimmed};
 ghost use Rattle.buchi_core.specs.View.{members};
 ghost use Rattle.cyc_basics.specs.Bits.{is_one};
+ghost use Rattle.cyc_basics.specs.declared.limits.TheConstants.{MOST_POSITIONS};
 ghost use Rattle.buchi_core.specs.Young.{AreLeft, left_of, made};
 
+use crate::age_forest::MOST_ENTRIES;
 use crate::entry::Entry;
 use arrayvec::ArrayVec;
+
+/// Entries in the middle of a step, at most: the old ones, a child of each, and a top entry.
+pub(crate) const MOST_YOUNG: usize = 2 * MOST_ENTRIES + 1;
 
 /// Entries, oldest first, and for each the mask of what it has and none of its children so far; `top` is the mask of
 /// what no entry without a parent has.
 #[derive(Drop)]
 pub(crate) struct Young {
-    pub(crate) entries: ArrayVec<Entry, 65>,
-    pub(crate) left: [u32; 65],
-    pub(crate) top: u32,
+    pub(crate) entries: ArrayVec<Entry, MOST_YOUNG>,
+    pub(crate) left: ArrayVec<u64, MOST_YOUNG>,
+    pub(crate) top: u64,
 }
 
 /// No entries.
 pub(crate) fn no_entries() -> Young {
     Young {
         entries: ArrayVec::new(),
-        left: [0; 65],
-        top: u32::MAX,
+        left: ArrayVec::new(),
+        top: u64::MAX,
     }
 }
 
@@ -34,12 +39,12 @@ pub(crate) fn clear(young: &mut Young)
     ensures left { AreLeft young.new }
 {
     young.entries.clear();
-    young.left = [0; 65];
-    young.top = u32::MAX;
+    young.left.clear();
+    young.top = u64::MAX;
 }
 
-/// What a further child of the parent may have.
-pub(crate) fn left_at(young: &Young, parent: Option<u8>) -> u32
+/// What a further child of the parent may have: nothing if there is no such entry.
+pub(crate) fn left_at(young: &Young, parent: Option<u8>) -> u64
     ensures { result ≡ left_of young.now parent }
 {
     match parent {
@@ -52,11 +57,10 @@ pub(crate) fn left_at(young: &Young, parent: Option<u8>) -> u32
 }
 
 /// Gives these positions to a child of the parent.
-fn give(young: &mut Young, parent: Option<u8>, set: u32)
-    requires long { length young.old.left ≡ 65 }
+fn give(young: &mut Young, parent: Option<u8>, set: u64)
     ensures entries { young.new.entries ≡ young.old.entries }
-    ensures long { length young.new.left ≡ 65 }
-    ensures left { (o : Option ℕ) (q : ℕ) → q < 32
+    ensures long { array_vec_len young.new.left ≡ array_vec_len young.old.left }
+    ensures left { (o : Option ℕ) (q : ℕ) → q < MOST_POSITIONS
         → is_one (left_of young.new o) q
         ≡ (is_one (left_of young.old o) q && not (same_parent parent o && is_one set q)) }
 {
@@ -64,7 +68,7 @@ fn give(young: &mut Young, parent: Option<u8>, set: u32)
         None => young.top &= !set,
         Some(p) => {
             let place = p as usize;
-            if place < 65 {
+            if place < young.left.len() {
                 young.left[place] &= !set;
             }
         }
@@ -72,8 +76,8 @@ fn give(young: &mut Young, parent: Option<u8>, set: u32)
 }
 
 /// Appends an entry, without what its parent lacks and what an older sibling has.
-pub(crate) fn push_entry(young: &mut Young, parent: Option<u8>, set: u32)
-    requires room { array_vec_len young.old.entries < 65 }
+pub(crate) fn push_entry(young: &mut Young, parent: Option<u8>, set: u64)
+    requires room { array_vec_len young.old.entries < MOST_YOUNG }
     requires left { AreLeft young.old }
     ensures entries { made young.new ≡ made young.old
         ++ (trimmed (made young.old) (record { parent = parent; set = members set }) ∷ []) }
@@ -82,7 +86,6 @@ pub(crate) fn push_entry(young: &mut Young, parent: Option<u8>, set: u32)
 {
     let kept = set & left_at(young, parent);
     give(young, parent, kept);
-    let place = young.entries.len();
-    young.left[place] = kept;
-    young.entries.push(Entry { parent, set: kept });
+    young.left.push(kept);
+    young.entries.push(Entry::new(parent, kept));
 }

@@ -3,6 +3,7 @@ use Rattle.std.proofs.Common.{◌≡◌, ℕ, ◌<◌, ◌≤◌, inl, inr, List
 use Rattle.std.proofs.Common.{sym, refl, ap, ◌∙◌, subst, Vec, Global, ltb, ltb-true, le_refl, get_or, ◌+◌}
 use Rattle.std.proofs.lemmas.Bool.{cases_Bool, both_ways, lt-ltb, cases_lt, cases_eq}
 use Rattle.std.proofs.lemmas.Option.{slice_get_within, slice_get_read}
+use Rattle.cyc_basics.specs.declared.limits.TheConstants.{MOST_POSITIONS}
 use Rattle.trace_pairs.specs.Graph.{Node, IsGraph}
 use Rattle.trace_pairs.specs.Lasso.{IsPath}
 use Rattle.trace_pairs.specs.declared.lasso.Step.{Step}
@@ -158,7 +159,7 @@ module _ (g : List Node) (states : List State) (rows : List (Vec Transition Glob
         (length s.forest)).dies k (sym m.event_is)).1,
   )
 
-  pub all_good : IsGoodClass g states rows Nothing → ((k : ℕ) → k < 32 → IsGoodClass g states rows (Dies k))
+  pub all_good : IsGoodClass g states rows Nothing → ((k : ℕ) → k < MOST_POSITIONS → IsGoodClass g states rows (Dies k))
       → BadCycle g → ⊥
   all_good quiet deaths bad =
       let l = least_first g bad in

@@ -3,6 +3,7 @@ use Rattle.std.specs.Prelude.{ℕ, ◌≡◌, ◌<◌, ◌≤◌, Bool, List, []
 use Rattle.std.specs.declared.alloc.Global.{Global}
 use Rattle.std.specs.HashSet.{HashSet}
 use Rattle.buchi_core.specs.View.{entries_of}
+use Rattle.cyc_basics.specs.declared.limits.TheConstants.{MOST_POSITIONS}
 use Rattle.trace_pairs.specs.Graph.{Node}
 use Rattle.buchi_core.specs.declared.event.Event.{Event}
 use Rattle.buchi_inclusion.specs.Product.{State, Moves, Reachable, IsStart}
@@ -35,7 +36,7 @@ IsLast g s n = (node : Node) → slice_get g s.node ≡ Some node → length nod
 pub record IsState (g : List Node) (s : State) : Type 0 where
   pub reached : Reachable g s
   pub node : s.node < length g
-  pub short : length s.forest ≤ 32
+  pub short : length s.forest ≤ MOST_POSITIONS
 
 -- over edge k a state that was found leads to t, which is found so, with the event
 abbrev pub Finds : List Node → State → ℕ → State → Event → Type 0

@@ -16,6 +16,7 @@ use crate::product::{Table, Transition, state_at};
 use crate::ranks::{are_rising, rank_of, ranks_of};
 use crate::reaching::is_reached;
 use buchi_core::{Event, earlier};
+use cyc_basics::limits::MOST_POSITIONS;
 use cyc_basics::memory::OutOfMemory;
 use std::alloc::Global;
 use trace_pairs::reach::{Visit, place_of, visits_from};
@@ -404,7 +405,7 @@ pub fn decide(
     if found.is_some() {
         return Ok(found);
     }
-    let above = deaths_of(&table.rows).min(32);
+    let above = deaths_of(&table.rows).min(u32::from(MOST_POSITIONS));
     for place in 0..above as u8 {
         let found = decide_class(alloc, graph, table, Event::Dies(place))?;
         if found.is_some() {

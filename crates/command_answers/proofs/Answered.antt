@@ -1,6 +1,7 @@
 -- The answers to an entailment.
 use Rattle.std.proofs.Common.{◌≡◌, ℕ, ◌<◌, ◌≤◌, List, Some, sym, ◌∙◌, subst, inl, inr}
 use Rattle.std.proofs.lemmas.Bool.{cases_lt}
+use Rattle.cyc_basics.specs.declared.limits.Limits.{Limits}
 use Rattle.heap_formula.specs.declared.judgements.Judgement.{Judgement}
 use Rattle.heap_formula.specs.declared.judgements.Judgement.TheVariants.{Entail, Term as Runs}
 use Rattle.heap_formula.specs.declared.commands.Command.{Command}
@@ -23,7 +24,7 @@ use Rattle.counter_model.specs.declared.refuting.Refuted.{Refuted}
 use Rattle.counter_model.specs.declared.refuting.Refuted.TheVariants.{Found, NotFound, TooManyUniversals}
 
 -- the antecedent of a goal within the limits has no existentials
-pub goal_universal : (most count : ℕ) (ds : List Definition) (g : Judgement) (a : SymbolicHeap) (bs : List SymbolicHeap)
+pub goal_universal : (most : Limits) (count : ℕ) (ds : List Definition) (g : Judgement) (a : SymbolicHeap) (bs : List SymbolicHeap)
     → g ≡ Entail a bs → IsJudgementWithin most ds count g → IsUniversalHeap a
 goal_universal most count ds g a bs e w = subst (λ (j : Judgement). IsUniversalHeap (antecedent j)) e w.universal
 

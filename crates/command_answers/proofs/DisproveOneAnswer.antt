@@ -18,6 +18,8 @@ use Rattle.formula_reader.proofs.Within.{problem_keeps}
 use Rattle.model_file.specs.declared.file.Model.{Model}
 use Rattle.model_file.specs.Reading as models
 use Rattle.model_file.proofs.Readings.{text_is_read}
+use Rattle.model_file.specs.declared.version.ModelVersion.{ModelVersion}
+use Rattle.model_file.specs.Versions.{version_for}
 use Rattle.model_file.specs.Written.{text_of_model}
 use Rattle.command_answers.specs.ModelAnswers.{IsModelled, holds_text, place_text}
 use Rattle.cyc_runs.specs.declared.endings.Status.{Status}
@@ -33,12 +35,12 @@ use Rattle.command_answers.specs.DisproveAnswers.{IsModelFile, IsEntailmentAnswe
 use Rattle.command_answers.specs.DisproveAnswers.{IsDisproved, IsRefuted, HasNoCounter, OnEntailment}
 use Rattle.command_answers.proofs.Answered.{goal_universal}
 use Rattle.command_answers.proofs.OneCounter.{one_counter}
-use Rattle.counter_model.proofs.ModelTrees.{file_fits, file_flawless}
+use Rattle.counter_model.proofs.ModelTrees.{file_version, file_limits, file_fits, file_flawless}
 use Rattle.command_answers.proofs.ModelTrees.{plain_state}
 
 -- ---- one status and one text
 
-module _ (n : ℕ) (ds : List Definition) (a : SymbolicHeap) (bs : List SymbolicHeap) where
+module _ (version : ModelVersion) (n : ℕ) (ds : List Definition) (a : SymbolicHeap) (bs : List SymbolicHeap) where
   wide_searched : (s t : Status) (xs ys : List ℕ) → IsWideAnswer a bs s xs → IsSearched ds a bs → ⊥
   wide_searched s t xs ys wide searched =
       let l : 8 < judgement_bound (Entail a bs) = wide.0 in
@@ -55,21 +57,21 @@ module _ (n : ℕ) (ds : List Definition) (a : SymbolicHeap) (bs : List Symbolic
   placed_searched s xs placed searched = no_place ds bs placed.0 searched.constructive.0 searched.constructive.1
       placed.2
 
-  none_first : (s t : Status) (xs ys : List ℕ) → IsNoneAnswer n ds a bs s xs → IsModelFile n ds a bs t ys → ⊥
+  none_first : (s t : Status) (xs ys : List ℕ) → IsNoneAnswer n ds a bs s xs → IsModelFile version n ds a bs t ys → ⊥
   none_first s t xs ys none first = none.1 first.0 first.1 first.3.size first.3.counter
 
   one_place_answer : (s t : Status) (xs ys : List ℕ) → IsPlaceAnswer ds a bs s xs → IsPlaceAnswer ds a bs t ys
       → (s ≡ t) × (xs ≡ ys)
   one_place_answer s t xs ys p q = (p.3 ∙ sym q.3, p.4 ∙ ap place_text (one_place ds bs p.0 q.0 p.2 q.2) ∙ sym q.4)
 
-  one_file : (s t : Status) (xs ys : List ℕ) → IsModelFile n ds a bs s xs → IsModelFile n ds a bs t ys
+  one_file : (s t : Status) (xs ys : List ℕ) → IsModelFile version n ds a bs s xs → IsModelFile version n ds a bs t ys
       → (s ≡ t) × (xs ≡ ys)
   one_file s t xs ys p q =
       let same = one_counter ds a bs n p.0 q.0 p.1 q.1 p.3 q.3 in
-      (p.4 ∙ sym q.4, p.5 ∙ (λ i. text_of_model ds (same.0 i) (same.1 i) a) ∙ sym q.5)
+      (p.4 ∙ sym q.4, p.5 ∙ (λ i. text_of_model version ds (same.0 i) (same.1 i) a) ∙ sym q.5)
 
-  one_entailment_answer : (s t : Status) (xs ys : List ℕ) → IsEntailmentAnswer n ds a bs s xs
-      → IsEntailmentAnswer n ds a bs t ys → (s ≡ t) × (xs ≡ ys)
+  one_entailment_answer : (s t : Status) (xs ys : List ℕ) → IsEntailmentAnswer version n ds a bs s xs
+      → IsEntailmentAnswer version n ds a bs t ys → (s ≡ t) × (xs ≡ ys)
   one_entailment_answer s t xs ys (inl p) (inl q) = (p.1 ∙ sym q.1, p.2 ∙ sym q.2)
   one_entailment_answer s t xs ys (inl p) (inr (inl q)) = absurd (wide_placed s t xs ys p q)
   one_entailment_answer s t xs ys (inl p) (inr (inr (inl q))) = absurd (wide_searched s t xs ys p q.0)
@@ -87,21 +89,23 @@ module _ (n : ℕ) (ds : List Definition) (a : SymbolicHeap) (bs : List Symbolic
   one_entailment_answer s t xs ys (inr (inr (inr p))) (inr (inr (inl q))) = absurd (none_first t s ys xs q p)
   one_entailment_answer s t xs ys (inr (inr (inr p))) (inr (inr (inr q))) = one_file s t xs ys p q
 
-one_goal_answer : (n : ℕ) (ds : List Definition) (g : Judgement) (s t : Status) (xs ys : List ℕ)
-    → IsGoalAnswer n ds g s xs → IsGoalAnswer n ds g t ys → (s ≡ t) × (xs ≡ ys)
-one_goal_answer n ds (Entail a bs) s t xs ys p q = one_entailment_answer n ds a bs s t xs ys p q
-one_goal_answer n ds (Runs i a) s t xs ys p q = (p.0 ∙ sym q.0, p.1 ∙ sym q.1)
+one_goal_answer : (version : ModelVersion) (n : ℕ) (ds : List Definition) (g : Judgement) (s t : Status)
+    (xs ys : List ℕ) → IsGoalAnswer version n ds g s xs → IsGoalAnswer version n ds g t ys → (s ≡ t) × (xs ≡ ys)
+one_goal_answer version n ds (Entail a bs) s t xs ys p q = one_entailment_answer version n ds a bs s t xs ys p q
+one_goal_answer version n ds (Runs i a) s t xs ys p q = (p.0 ∙ sym q.0, p.1 ∙ sym q.1)
 
 same_answer : (n : ℕ) (p q : Problem) → problems.AreSame p q → (s : Status) (xs : List ℕ)
-    → IsGoalAnswer n p.defs.list p.goal s xs → IsGoalAnswer n q.defs.list q.goal s xs
+    → IsGoalAnswer (version_for p.version) n p.defs.list p.goal s xs
+    → IsGoalAnswer (version_for q.version) n q.defs.list q.goal s xs
 same_answer n p q same s xs is =
-    subst (λ (g : Judgement). IsGoalAnswer n q.defs.list g s xs) same.goal
-    (subst (λ (ds : List Definition). IsGoalAnswer n ds p.goal s xs) same.definitions is)
+    subst (λ (g : Judgement). IsGoalAnswer (version_for q.version) n q.defs.list g s xs) same.goal
+    (subst (λ (ds : List Definition). IsGoalAnswer (version_for q.version) n ds p.goal s xs) same.definitions
+    (subst (λ (v : ModelVersion). IsGoalAnswer v n p.defs.list p.goal s xs) (ap version_for same.version) is))
 
 one_read_answer : (n : ℕ) (r q : Result Problem ReadFault) (s t : Status) (xs ys : List ℕ)
     → AreAlike problems.AreSame r q → IsReadAnswer n r s xs → IsReadAnswer n q t ys → (s ≡ t) × (xs ≡ ys)
 one_read_answer n (Ok p) (Ok q) s t xs ys same first second =
-    one_goal_answer n q.defs.list q.goal s t xs ys (same_answer n p q same s xs first) second
+    one_goal_answer (version_for q.version) n q.defs.list q.goal s t xs ys (same_answer n p q same s xs first) second
 one_read_answer n (Err a) (Err b) s t xs ys same first second = one_fault_answer a b s t xs ys same first second
 one_read_answer n (Ok p) (Err b) s t xs ys same first second = absurd same
 one_read_answer n (Err a) (Ok q) s t xs ys same first second = absurd same
@@ -128,42 +132,47 @@ fault_finds (faults.Limit what token line column) e = cc
 fault_finds faults.OutOfMemory e = cc
 
 -- success gives the file of a first counter-model
-success_file : (n : ℕ) (ds : List Definition) (a : SymbolicHeap) (bs : List SymbolicHeap) (xs : List ℕ)
-    → IsEntailmentAnswer n ds a bs Success xs → IsModelFile n ds a bs Success xs
-success_file n ds a bs xs (inl p) = absurd (let e : Success ≡ Limit = p.1 in cc)
-success_file n ds a bs xs (inr (inl p)) = absurd (let e : Success ≡ IllFormed = p.3 in cc)
-success_file n ds a bs xs (inr (inr (inl p))) = absurd (let e : Success ≡ NotFound = p.2 in cc)
-success_file n ds a bs xs (inr (inr (inr p))) = p
+success_file : (version : ModelVersion) (n : ℕ) (ds : List Definition) (a : SymbolicHeap) (bs : List SymbolicHeap)
+    (xs : List ℕ)
+    → IsEntailmentAnswer version n ds a bs Success xs → IsModelFile version n ds a bs Success xs
+success_file version n ds a bs xs (inl p) = absurd (let e : Success ≡ Limit = p.1 in cc)
+success_file version n ds a bs xs (inr (inl p)) = absurd (let e : Success ≡ IllFormed = p.3 in cc)
+success_file version n ds a bs xs (inr (inr (inl p))) = absurd (let e : Success ≡ NotFound = p.2 in cc)
+success_file version n ds a bs xs (inr (inr (inr p))) = p
 
-none_is_none : (n : ℕ) (ds : List Definition) (a : SymbolicHeap) (bs : List SymbolicHeap) (xs : List ℕ)
-    → IsEntailmentAnswer n ds a bs NotFound xs → HasNone n ds a bs
-none_is_none n ds a bs xs (inl p) = absurd (let e : NotFound ≡ Limit = p.1 in cc)
-none_is_none n ds a bs xs (inr (inl p)) = absurd (let e : NotFound ≡ IllFormed = p.3 in cc)
-none_is_none n ds a bs xs (inr (inr (inl p))) = p.1
-none_is_none n ds a bs xs (inr (inr (inr p))) = absurd (let e : NotFound ≡ Success = p.4 in cc)
+none_is_none : (version : ModelVersion) (n : ℕ) (ds : List Definition) (a : SymbolicHeap) (bs : List SymbolicHeap)
+    (xs : List ℕ)
+    → IsEntailmentAnswer version n ds a bs NotFound xs → HasNone n ds a bs
+none_is_none version n ds a bs xs (inl p) = absurd (let e : NotFound ≡ Limit = p.1 in cc)
+none_is_none version n ds a bs xs (inr (inl p)) = absurd (let e : NotFound ≡ IllFormed = p.3 in cc)
+none_is_none version n ds a bs xs (inr (inr (inl p))) = p.1
+none_is_none version n ds a bs xs (inr (inr (inr p))) = absurd (let e : NotFound ≡ Success = p.4 in cc)
 
-no_refusal : (n : ℕ) (ds : List Definition) (g : Judgement) (xs : List ℕ) → IsGoalAnswer n ds g Refused xs → ⊥
-no_refusal n ds (Entail a bs) xs (inl p) = let e : Refused ≡ Limit = p.1 in cc
-no_refusal n ds (Entail a bs) xs (inr (inl p)) = let e : Refused ≡ IllFormed = p.3 in cc
-no_refusal n ds (Entail a bs) xs (inr (inr (inl p))) = let e : Refused ≡ NotFound = p.2 in cc
-no_refusal n ds (Entail a bs) xs (inr (inr (inr p))) = let e : Refused ≡ Success = p.4 in cc
-no_refusal n ds (Runs i a) xs p = let e : Refused ≡ IllFormed = p.0 in cc
+no_refusal : (version : ModelVersion) (n : ℕ) (ds : List Definition) (g : Judgement) (xs : List ℕ)
+    → IsGoalAnswer version n ds g Refused xs → ⊥
+no_refusal version n ds (Entail a bs) xs (inl p) = let e : Refused ≡ Limit = p.1 in cc
+no_refusal version n ds (Entail a bs) xs (inr (inl p)) = let e : Refused ≡ IllFormed = p.3 in cc
+no_refusal version n ds (Entail a bs) xs (inr (inr (inl p))) = let e : Refused ≡ NotFound = p.2 in cc
+no_refusal version n ds (Entail a bs) xs (inr (inr (inr p))) = let e : Refused ≡ Success = p.4 in cc
+no_refusal version n ds (Runs i a) xs p = let e : Refused ≡ IllFormed = p.0 in cc
 
-goal_refuted : (n : ℕ) (ds : List Definition) (g : Judgement) (xs : List ℕ) → IsGoalAnswer n ds g Success xs
-    → (a : SymbolicHeap) × (bs : List SymbolicHeap) × (g ≡ Entail a bs) × IsModelFile n ds a bs Success xs
-goal_refuted n ds (Entail a bs) xs p = (a, bs, refl, success_file n ds a bs xs p)
-goal_refuted n ds (Runs i a) xs p = absurd (let e : Success ≡ IllFormed = p.0 in cc)
+goal_refuted : (version : ModelVersion) (n : ℕ) (ds : List Definition) (g : Judgement) (xs : List ℕ)
+    → IsGoalAnswer version n ds g Success xs
+    → (a : SymbolicHeap) × (bs : List SymbolicHeap) × (g ≡ Entail a bs) × IsModelFile version n ds a bs Success xs
+goal_refuted version n ds (Entail a bs) xs p = (a, bs, refl, success_file version n ds a bs xs p)
+goal_refuted version n ds (Runs i a) xs p = absurd (let e : Success ≡ IllFormed = p.0 in cc)
 
-goal_none : (n : ℕ) (ds : List Definition) (g : Judgement) (xs : List ℕ) → IsGoalAnswer n ds g NotFound xs
+goal_none : (version : ModelVersion) (n : ℕ) (ds : List Definition) (g : Judgement) (xs : List ℕ)
+    → IsGoalAnswer version n ds g NotFound xs
     → OnEntailment g (HasNone n ds)
-goal_none n ds (Entail a bs) xs p = none_is_none n ds a bs xs p
-goal_none n ds (Runs i a) xs p = absurd (let e : NotFound ≡ IllFormed = p.0 in cc)
+goal_none version n ds (Entail a bs) xs p = none_is_none version n ds a bs xs p
+goal_none version n ds (Runs i a) xs p = absurd (let e : NotFound ≡ IllFormed = p.0 in cc)
 
 read_refuted : (n : ℕ) (input : List ℕ) (r : Result Problem ReadFault) (xs : List ℕ) → problems.IsRead input r
     → IsReadAnswer n r Success xs → (p : Problem) × problems.IsRead input (Ok p)
     × ((a : SymbolicHeap) × (bs : List SymbolicHeap) × (p.goal ≡ Entail a bs)
-    × IsModelFile n p.defs.list a bs Success xs)
-read_refuted n input (Ok p) xs is answer = (p, is, goal_refuted n p.defs.list p.goal xs answer)
+    × IsModelFile (version_for p.version) n p.defs.list a bs Success xs)
+read_refuted n input (Ok p) xs is answer = (p, is, goal_refuted (version_for p.version) n p.defs.list p.goal xs answer)
 read_refuted n input (Err fault) xs is answer = absurd (fault_fails fault answer.0)
 
 -- success says that the goal of the problem that was read is refuted
@@ -180,7 +189,7 @@ success_refutes n input xs is =
 
 read_none : (n : ℕ) (input : List ℕ) (r : Result Problem ReadFault) (xs : List ℕ) → problems.IsRead input r
     → IsReadAnswer n r NotFound xs → (p : Problem) × problems.IsRead input (Ok p) × HasNoCounter n p
-read_none n input (Ok p) xs is answer = (p, is, goal_none n p.defs.list p.goal xs answer)
+read_none n input (Ok p) xs is answer = (p, is, goal_none (version_for p.version) n p.defs.list p.goal xs answer)
 read_none n input (Err fault) xs is answer = absurd (fault_finds fault answer.0)
 
 -- not found, that it has no counter-model of the size
@@ -189,7 +198,7 @@ pub none_found : (n : ℕ) (input : List ℕ) (xs : List ℕ) → IsDisproved n 
 none_found n input xs is = read_none n input is.1 xs is.2 is.3
 
 read_refuses_not : (n : ℕ) (r : Result Problem ReadFault) (xs : List ℕ) → IsReadAnswer n r Refused xs → ⊥
-read_refuses_not n (Ok p) xs answer = no_refusal n p.defs.list p.goal xs answer
+read_refuses_not n (Ok p) xs answer = no_refusal (version_for p.version) n p.defs.list p.goal xs answer
 read_refuses_not n (Err fault) xs answer = fault_is_no_refusal fault answer.0
 
 -- there is no refusal
@@ -209,15 +218,16 @@ model_holds n input xs is short =
     let z = f.3.size in
     let searched = f.2 in
     let m : Model = record {
-      defs = record { most = 32; list = p.defs.list };
+      version = file_version p;
+      defs = record { most = file_limits p; list = p.defs.list };
       stack = f.0;
       heap = f.1;
       ask = a;
       limit = refl;
       fits = file_fits p a bs f.0 f.1 r.2.2 (plain_state n p a bs f.0 f.1 is.4 r.2.2 searched.few z)
-          p.defs.list a refl refl;
+          (file_version p) p.defs.list a refl refl refl;
       flawless = file_flawless p a bs f.0 f.1 r.2.2 (plain_state n p a bs f.0 f.1 is.4 r.2.2 searched.few z)
-          p.defs.list a refl refl;
+          (file_version p) p.defs.list a refl refl refl;
     } in
     let universal = goal_universal p.defs.most (length p.program) p.defs.list p.goal a bs r.2.2 (problem_keeps p).goal
     in (

@@ -37,6 +37,7 @@ module _ (m n : Model) (same : models.AreSame m n) where
 
 turned : (m n : Model) → models.AreSame m n → models.AreSame n m
 turned m n same = record {
+  version = sym same.version;
   most = sym same.most;
   definitions = sym same.definitions;
   stack = sym same.stack;

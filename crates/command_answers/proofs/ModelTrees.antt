@@ -1,6 +1,7 @@
 -- The first counter-model of a size may stand in a model file.
 use Rattle.std.proofs.Common.{◌≡◌, ℕ, ◌<◌, ◌≤◌, ◌^◌, List, [], ◌∷◌, length, Some, subst, inl, inr, arith}
 use Rattle.std.specs.FinMap.{entries, len, len-entries}
+use Rattle.cyc_basics.specs.declared.limits.Limits.{Limits}
 use Rattle.heap_formula.specs.declared.judgements.Judgement.{Judgement}
 use Rattle.heap_formula.specs.declared.judgements.Judgement.TheVariants.{Entail}
 use Rattle.heap_formula.specs.declared.atoms.Spatial.{Spatial}
@@ -13,6 +14,9 @@ use Rattle.heap_formula.specs.Values.{Stack}
 use Rattle.heap_formula.specs.Cells.{Cells, cell_at}
 use Rattle.rule_book.specs.Limits.{HasFields, IsHeapWithin, IsJudgementWithin, IsCaseWithin, IsDefinitionWithin}
 use Rattle.model_file.specs.Small.{IsShortNumber}
+use Rattle.model_file.specs.Versions.{version_for}
+use Rattle.model_file.proofs.Parts.{eight_fields, sixteen_cells}
+use Rattle.counter_model.proofs.ModelTrees.{file_limits}
 use Rattle.formula_reader.proofs.Within.{problem_keeps}
 use Rattle.formula_reader.specs.declared.problem.Problem.{Problem}
 use Rattle.counter_model.specs.States.{IsPlainCell, IsPlainState}
@@ -35,10 +39,10 @@ one_few P Q A f [] a o = absurd o
 one_few P Q A f (x ∷ xs) a (inl q) = f x a.0 q
 one_few P Q A f (x ∷ xs) a (inr o) = one_few P Q A f xs a.1 o
 
-heap_few : (most : ℕ) (ds : List Definition) (k : ℕ) (a : SymbolicHeap) → IsHeapWithin most ds a → IsWidthIn k a → k ≤ 8
+heap_few : (most : Limits) (ds : List Definition) (k : ℕ) (a : SymbolicHeap) → IsHeapWithin most ds a → IsWidthIn k a → k ≤ 8
 heap_few most ds k a w o = one_few HasFields (sizes.HasFields k) (k ≤ 8) (atom_few k) a.spatial w.fields o
 
-width_few : (most count : ℕ) (ds : List Definition) (a : SymbolicHeap) (bs : List SymbolicHeap) (k : ℕ)
+width_few : (most : Limits) (count : ℕ) (ds : List Definition) (a : SymbolicHeap) (bs : List SymbolicHeap) (k : ℕ)
     → Each (IsDefinitionWithin most ds) ds → IsJudgementWithin most ds count (Entail a bs) → IsWidth ds a bs k → k ≤ 8
 width_few most count ds a bs k w j (inl o) =
     one_few (IsDefinitionWithin most ds) (λ d. OneOf (IsWidthIn k) d.cases) (k ≤ 8)
@@ -58,20 +62,23 @@ module _ (n : ℕ) (p : Problem) (a : SymbolicHeap) (bs : List SymbolicHeap) (s 
   judged = subst (λ (g : Judgement). IsJudgementWithin p.defs.most p.defs.list (length p.program) g) goal
       (problem_keeps p).goal
 
-  plain : (q : ℕ) (vs : List ℕ) → cell_at h q ≡ Some vs → IsPlainCell (q, vs)
+  plain : (q : ℕ) (vs : List ℕ) → cell_at h q ≡ Some vs → IsPlainCell (file_limits p) (q, vs)
   plain q vs e =
       let c = z.cells q vs e in
       let k = z.addresses q vs e in
-      let l : q ≤ n = k.1 in record {
+      let l : q ≤ n = k.1 in
+      let narrow : length vs ≤ 8 = width_few p.defs.most (length p.program) p.defs.list a bs (length vs)
+      (problem_keeps p).definitions judged c.count in
+      let room = eight_fields (version_for p.version) in
+      record {
         positive = k.0;
         address = short q (omega arith);
         some = c.positive;
-        few = width_few p.defs.most (length p.program) p.defs.list a bs (length vs)
-            (problem_keeps p).definitions judged c.count;
+        few = omega arith;
         fields = each_imply (λ v. v ≤ n) IsShortNumber (λ v m. short v (omega arith)) vs c.fields;
       }
 
-  pub plain_state : IsPlainState s h
+  pub plain_state : IsPlainState (file_limits p) s h
   plain_state = record {
     short = let l : length s ≡ judgement_bound (Entail a bs) = z.stack in omega arith;
     values = each_imply (λ v. v ≤ n) IsShortNumber (λ v m. short v (omega arith)) s z.entries;
@@ -79,6 +86,7 @@ module _ (n : ℕ) (p : Problem) (a : SymbolicHeap) (bs : List SymbolicHeap) (s 
       addresses = z.addresses;
       fields = λ q vs e. (z.cells q vs e).fields;
     }) in let k : len h ≡ length (entries h) = len-entries h in
+        let room = sixteen_cells (version_for p.version) in
         omega arith;
-    cells = all_entries IsPlainCell h plain;
+    cells = all_entries (IsPlainCell (file_limits p)) h plain;
   }

@@ -1,5 +1,6 @@
 -- The definitions and the antecedent of a problem that was read are such that base pairs decide satisfiability.
 use Rattle.std.proofs.Common.{ℕ, zero, suc, List, [], ◌∷◌, arith}
+use Rattle.cyc_basics.specs.declared.limits.Limits.{Limits}
 use Rattle.heap_formula.specs.declared.terms.Term.{Term}
 use Rattle.heap_formula.specs.declared.terms.Term.TheVariants.{Nil, Univ, Exist}
 use Rattle.heap_formula.specs.declared.atoms.Spatial.{Spatial}
@@ -25,7 +26,7 @@ parameter_below k Nil below = tt
 parameter_below k (Univ n) below = omega arith
 parameter_below k (Exist n) below = tt
 
-module _ (most : ℕ) (all : List Definition) where
+module _ (most : Limits) (all : List Definition) where
   is_case : (k : ℕ) (a : SymbolicHeap) → IsCaseWithin most all k a → IsCase k a
   is_case k a within = (
     in_heap_each (IsBelow k) (IsParameterBelow k) (parameter_below k) a (heap_below k a within.parameters),

@@ -14,6 +14,8 @@ use Rattle.counter_model.specs.FirstCounter.{HasSize, IsCounter, IsFirstCounter}
 use Rattle.formula_reader.specs.declared.problem.Problem.{Problem}
 use Rattle.formula_reader.specs.Reading as problems
 use Rattle.cyc_lex.specs.declared.fault.ReadFault.{ReadFault}
+use Rattle.model_file.specs.declared.version.ModelVersion.{ModelVersion}
+use Rattle.model_file.specs.Versions.{version_for}
 use Rattle.model_file.specs.Written.{text_of_model}
 use Rattle.command_answers.specs.ModelAnswers.{place_text}
 use Rattle.cyc_runs.specs.declared.endings.Status.{Status}
@@ -60,27 +62,30 @@ abbrev pub IsNoneAnswer : ℕ → List Definition → SymbolicHeap → List Symb
 IsNoneAnswer n ds a bs ending text =
     IsSearched ds a bs × HasNone n ds a bs × (ending ≡ NotFound) × (text ≡ not_found_text n)
 
--- the file of the first counter-model, with the definitions and the antecedent
-abbrev pub IsModelFile : ℕ → List Definition → SymbolicHeap → List SymbolicHeap → Status → List ℕ → Type 0
-IsModelFile n ds a bs ending text =
+-- the file, of this version, of the first counter-model, with the definitions and the antecedent
+abbrev pub IsModelFile : ModelVersion → ℕ → List Definition → SymbolicHeap → List SymbolicHeap → Status → List ℕ
+    → Type 0
+IsModelFile version n ds a bs ending text =
     (s : Stack) × (h : Cells) × IsSearched ds a bs × IsFirstCounter ds a bs n s h × (ending ≡ Success)
-    × (text ≡ text_of_model ds s h a)
+    × (text ≡ text_of_model version ds s h a)
 
 -- a universal's number is too great; or a place is not constructive; or there is no counter-model of the size; or there
 -- is
-abbrev pub IsEntailmentAnswer : ℕ → List Definition → SymbolicHeap → List SymbolicHeap → Status → List ℕ → Type 0
-IsEntailmentAnswer n ds a bs ending text =
+abbrev pub IsEntailmentAnswer : ModelVersion → ℕ → List Definition → SymbolicHeap → List SymbolicHeap → Status → List ℕ
+    → Type 0
+IsEntailmentAnswer version n ds a bs ending text =
     IsWideAnswer a bs ending text ⊎ (IsPlaceAnswer ds a bs ending text
-    ⊎ (IsNoneAnswer n ds a bs ending text ⊎ IsModelFile n ds a bs ending text))
+    ⊎ (IsNoneAnswer n ds a bs ending text ⊎ IsModelFile version n ds a bs ending text))
 
 -- a goal about a program has no such answer
-abbrev pub IsGoalAnswer : ℕ → List Definition → Judgement → Status → List ℕ → Type 0
-IsGoalAnswer n ds (Entail a bs) ending text = IsEntailmentAnswer n ds a bs ending text
-IsGoalAnswer n ds (Runs i a) ending text = (ending ≡ IllFormed) × (text ≡ from_text)
+abbrev pub IsGoalAnswer : ModelVersion → ℕ → List Definition → Judgement → Status → List ℕ → Type 0
+IsGoalAnswer version n ds (Entail a bs) ending text = IsEntailmentAnswer version n ds a bs ending text
+IsGoalAnswer version n ds (Runs i a) ending text = (ending ≡ IllFormed) × (text ≡ from_text)
 
 -- a reader that answered so is answered so
 abbrev pub IsReadAnswer : ℕ → Result Problem ReadFault → Status → List ℕ → Type 0
-IsReadAnswer n (Ok problem) ending text = IsGoalAnswer n problem.defs.list problem.goal ending text
+IsReadAnswer n (Ok problem) ending text =
+    IsGoalAnswer (version_for problem.version) n problem.defs.list problem.goal ending text
 IsReadAnswer n (Err fault) ending text = IsFaultAnswer fault ending text
 
 -- the input is read as a problem, and answered so, for a size of at most 4

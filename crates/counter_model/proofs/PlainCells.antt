@@ -3,6 +3,7 @@ use Rattle.std.proofs.Common.{◌≡◌, ℕ, zero, suc, ◌<◌, ◌≤◌, Lis
 use Rattle.std.proofs.Common.{◌∙◌, arith}
 use Rattle.std.proofs.lemmas.List.{length-map}
 use Rattle.std.specs.FinMap.{entries}
+use Rattle.cyc_basics.specs.declared.limits.Limits.{Limits}
 use Rattle.heap_formula.specs.Words.{Each}
 use Rattle.heap_formula.specs.Cells.{Cells, cell_at}
 use Rattle.heap_formula.specs.Values.{Stack}
@@ -28,20 +29,23 @@ at_address Q (e ∷ es) zero lt all = all.0
 at_address Q (e ∷ es) (suc i) lt all = at_address Q es i (omega arith) all.1
 
 -- the same, where it is known at the listed addresses
-pub plain_cells : (h : Cells) (addresses : List ℕ) → addresses ≡ map (λ (e : ℕ × List ℕ). e.0) (entries h)
-    → Each (HasPlainCell h) addresses → Each IsPlainCell (entries h)
-plain_cells h addresses are all =
-    let known = subst (Each (HasPlainCell h)) are all in
-    each_index IsPlainCell (0, []) (entries h) (λ i l. (at_address (HasPlainCell h) (entries h) i l known).cell
-    (get_or (entries h) i (0, [])).1 (cell_found h i (0, []) l))
+pub plain_cells : (most : Limits) (h : Cells) (addresses : List ℕ)
+    → addresses ≡ map (λ (e : ℕ × List ℕ). e.0) (entries h)
+    → Each (HasPlainCell most h) addresses → Each (IsPlainCell most) (entries h)
+plain_cells most h addresses are all =
+    let known = subst (Each (HasPlainCell most h)) are all in
+    each_index (IsPlainCell most) (0, []) (entries h)
+    (λ i l. (at_address (HasPlainCell most h) (entries h) i l known).cell (get_or (entries h) i (0, [])).1
+    (cell_found h i (0, []) l))
 
-pub plain_state : (s : Stack) (h : Cells) (values addresses asked : List ℕ) → values ≡ s → length values ≤ 65535
-    → Each IsShortNumber values → addresses ≡ map (λ (e : ℕ × List ℕ). e.0) (entries h) → length addresses ≤ 16
-    → asked ≡ addresses → Each (HasPlainCell h) asked → IsPlainState s h
-plain_state s h values addresses asked of_stack short all are few same cells = record {
+pub plain_state : (most : Limits) (s : Stack) (h : Cells) (values addresses asked : List ℕ) → values ≡ s
+    → length values ≤ 65535
+    → Each IsShortNumber values → addresses ≡ map (λ (e : ℕ × List ℕ). e.0) (entries h)
+    → length addresses ≤ most.cells → asked ≡ addresses → Each (HasPlainCell most h) asked → IsPlainState most s h
+plain_state most s h values addresses asked of_stack short all are few same cells = record {
   short = subst (λ (vs : Stack). length vs ≤ 65535) of_stack short;
   values = subst (Each IsShortNumber) of_stack all;
   few = let e : length (entries h) ≡ length addresses = sym (length-map (entries h) (λ (e : ℕ × List ℕ). e.0))
       ∙ sym (ap length are) in omega arith;
-  cells = plain_cells h asked (same ∙ are) cells;
+  cells = plain_cells most h asked (same ∙ are) cells;
 }

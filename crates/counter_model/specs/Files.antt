@@ -5,9 +5,11 @@ use Rattle.heap_formula.specs.Values.{Stack}
 use Rattle.heap_formula.specs.Cells.{Cells}
 use Rattle.formula_reader.specs.declared.problem.Problem.{Problem}
 use Rattle.model_file.specs.declared.file.Model.{Model}
+use Rattle.model_file.specs.Versions.{version_for}
 
--- the file has the problem's definitions, this stack and heap, and asks for this formula
+-- the file has the version for the problem's, the problem's definitions, this stack and heap, and asks for this formula
 pub record IsFileFor (problem : Problem) (a : SymbolicHeap) (s : Stack) (h : Cells) (m : Model) : Type 0 where
+  pub version : m.version ≡ version_for problem.version
   pub definitions : m.defs.list ≡ problem.defs.list
   pub stack : m.stack ≡ s
   pub heap : m.heap ≡ h

@@ -1,4 +1,4 @@
--- What stands at a place is in a set, and a set has at most 32 positions.
+-- What stands at a place is in a set, and a set has at most MOST_POSITIONS positions.
 use Rattle.std.proofs.Common.{◌≡◌, ℕ, zero, suc, [], ◌∷◌, ◌+◌, ◌<◌, ◌≤◌, inl, inr, List, true, false, arith, Some, None}
 use Rattle.std.proofs.Common.{slice_get, length, refl, ap, subst, nat_eq, eqb-true}
 use Rattle.std.specs.Prelude.{slice_index}
@@ -6,6 +6,7 @@ use Rattle.std.specs.List.Sorted.{IsStrictlyIncreasing}
 use Rattle.std.proofs.lemmas.Bool.{both_ways, or_cases, or_left, or_right, eq-eqb}
 use Rattle.std.proofs.lemmas.Option.{slice_get_within, slice_get-get_or}
 use Rattle.cyc_basics.specs.Sets.{IsPositionSet, has}
+use Rattle.cyc_basics.specs.declared.limits.TheConstants.{MOST_POSITIONS}
 
 -- what is in the set stands at a place
 pub has_at : (xs : List ℕ) (q : ℕ) → has xs q ≡ true → (k : ℕ) × (slice_get xs k ≡ Some q)
@@ -23,9 +24,9 @@ at_has (x ∷ xs) zero q h = or_left (nat_eq x q) (has xs q)
     (eq-eqb x q (let e : Some x ≡ Some q = h in let e' : x ≡ q = cc in e'))
 at_has (x ∷ xs) (suc k) q h = or_right (nat_eq x q) (has xs q) (at_has xs k q h)
 
--- positions that are below 32 at each place are so
-pub below_from : (positions : List ℕ) → ((k q : ℕ) → k < length positions → slice_get positions k ≡ Some q → q < 32)
-    → (q : ℕ) → has positions q ≡ true → q < 32
+-- positions that are below MOST_POSITIONS at each place are so
+pub below_from : (positions : List ℕ) → ((k q : ℕ) → k < length positions → slice_get positions k ≡ Some q → q < MOST_POSITIONS)
+    → (q : ℕ) → has positions q ≡ true → q < MOST_POSITIONS
 below_from positions h q m = let k = has_at positions q m in h k.0 q (slice_get_within positions k.0 q k.1) k.1
 
 -- a position of a list that rises strictly is at least its place
@@ -38,8 +39,8 @@ rising_place xs rising (suc k) l =
     let before : k ≤ slice_index xs k = rising_place xs rising k (omega (arith, l)) in
     omega (arith, before, less)
 
--- a set of positions has at most 32
-pub set_short : (xs : List ℕ) → IsPositionSet xs → length xs ≤ 32
+-- a set of positions has at most MOST_POSITIONS
+pub set_short : (xs : List ℕ) → IsPositionSet xs → length xs ≤ MOST_POSITIONS
 set_short [] s = omega arith
 set_short (x ∷ xs) s =
     let l : length xs < length (x ∷ xs) = omega arith in

@@ -5,6 +5,8 @@ ghost use Rattle.std.specs.Prelude.{ℕ, ◌≡◌, ◌<◌, ◌↔◌, true, Is
 ghost use Rattle.std.specs.List.Sorted.{IsStrictlyIncreasing};
 ghost use Rattle.cyc_basics.specs.Sets.{IsPositionSet, has};
 
+use crate::limits::MOST_POSITIONS;
+
 /// Whether the set has the position.
 pub fn has_position(set: &[u8], position: u8) -> bool
     ensures { result ≡ has set.now position }
@@ -17,12 +19,12 @@ pub fn has_position(set: &[u8], position: u8) -> bool
     false
 }
 
-/// Whether each position is below 32.
+/// Whether each position is below `MOST_POSITIONS`.
 fn are_below(positions: &[u8]) -> bool
-    ensures { IsTrue result ↔ ((q : ℕ) → has positions.now q ≡ true → q < 32) }
+    ensures { IsTrue result ↔ ((q : ℕ) → has positions.now q ≡ true → q < MOST_POSITIONS) }
 {
     for position in positions {
-        if *position >= 32 {
+        if *position >= MOST_POSITIONS {
             return false;
         }
     }
@@ -41,7 +43,7 @@ fn are_rising(positions: &[u8]) -> bool
     true
 }
 
-/// Whether the positions are a set: each above the one before it, and below 32.
+/// Whether the positions are a set: each above the one before it, and below `MOST_POSITIONS`.
 pub fn is_position_set(positions: &[u8]) -> bool
     ensures { IsTrue result ↔ IsPositionSet positions.now }
 {

@@ -1,5 +1,7 @@
 -- What a ring's file says is read of its text, a check accepts it, and it has 8 k + 1 nodes and one link.
 use Rattle.std.proofs.Common.{◌≡◌, ℕ, ◌+◌, ◌*◌, ◌≤◌, List, [], length, Ok, Err, refl, sym, ap, ◌∙◌}
+use Rattle.heap_syntax.specs.Versions.{limits}
+use Rattle.heap_syntax.specs.declared.version.Version.TheVariants.{One}
 use Rattle.cyc_lex.specs.declared.fault.ReadFault.{ReadFault}
 use Rattle.cyc_lex.specs.declared.fault.ReadFault.TheVariants as faults
 use Rattle.pred_defs.specs.Book.{DefinitionBook}
@@ -19,7 +21,7 @@ use Rattle.cyc_top.specs.Answers.{file_text}
 use Rattle.cyc_top.specs.Rings.{IsRing}
 
 -- the ring's file itself
-pub whole_ring : (k : ℕ) (f : ProofFile) → f.defs ≡ record { most = 16; list = ring_definitions k } → f.program ≡ []
+pub whole_ring : (k : ℕ) (f : ProofFile) → f.defs ≡ record { most = limits One; list = ring_definitions k } → f.program ≡ []
     → f.nodes ≡ file_nodes (ring_nodes k) → IsRing k f
 whole_ring k f defs program nodes =
     record {

@@ -2,14 +2,15 @@
 ghost use Rattle.std.specs.Prelude.{◌≡◌, ℕ, List, Option};
 ghost use Rattle.cyc_words.specs.declared.tasks.Task.{Task};
 ghost use Rattle.cyc_runs.specs.declared.endings.Status.{Status};
-ghost use Rattle.cyc_basics.specs.declared.limits.TheConstants.{GREATEST_LOCAL, GREATEST_PROGRAM_VARIABLE};
+ghost use Rattle.cyc_basics.specs.declared.limits.TheConstants.{GREATEST_FIRST_ORDER_LOCAL, GREATEST_PROGRAM_VARIABLE};
 ghost use Rattle.cyc_basics.specs.declared.limits.TheConstants.{GREATEST_VARIABLE, LONGEST_NAME, LONGEST_NUMBER};
-ghost use Rattle.cyc_basics.specs.declared.limits.TheConstants.{MOST_ARGUMENTS, MOST_CASES, MOST_CASE_ATOMS};
-ghost use Rattle.cyc_basics.specs.declared.limits.TheConstants.{MOST_CELLS, MOST_CONSTRUCTORS, MOST_DISJUNCTS};
-ghost use Rattle.cyc_basics.specs.declared.limits.TheConstants.{MOST_LEFT, MOST_LINES, MOST_LINKS, MOST_LOCALS};
-ghost use Rattle.cyc_basics.specs.declared.limits.TheConstants.{MOST_NODES, MOST_PREDICATES, MOST_PURE, MOST_RIGHT};
-ghost use Rattle.cyc_basics.specs.declared.limits.TheConstants.{MOST_SPATIAL, MOST_TERMS, MOST_UNIVERSALS, MOST_VALUES};
-ghost use Rattle.cyc_basics.specs.declared.limits.TheConstants.{MOST_VARIABLES};
+ghost use Rattle.cyc_basics.specs.declared.limits.TheConstants.{MOST_CASE_ATOMS, MOST_CONSTRUCTORS, MOST_DISJUNCTS};
+ghost use Rattle.cyc_basics.specs.declared.limits.TheConstants.{MOST_FIRST_ORDER_ARGUMENTS, MOST_FIRST_ORDER_CASES};
+ghost use Rattle.cyc_basics.specs.declared.limits.TheConstants.{MOST_LEFT, MOST_LINES, MOST_LINKS, MOST_NODES};
+ghost use Rattle.cyc_basics.specs.declared.limits.TheConstants.{MOST_PREDICATES, MOST_RIGHT, MOST_TERMS};
+ghost use Rattle.cyc_basics.specs.declared.limits.TheConstants.{MOST_UNIVERSALS, MOST_VALUES, MOST_VARIABLES};
+ghost use Rattle.heap_syntax.specs.declared.version.Version.TheVariants.{One, Two, Three};
+ghost use Rattle.heap_syntax.specs.Versions.{limits};
 ghost use Rattle.cyc_runs.specs.Runs.{input_limit};
 ghost use Rattle.proof_check.specs.Verdicts.{state_limit};
 ghost use Rattle.command_answers.specs.Answers.{pair_limit, size_limit};
@@ -34,19 +35,22 @@ pub fn limits_are_these()
     ensures name { LONGEST_NAME ≡ 64 }
     ensures number { LONGEST_NUMBER ≡ 9 }
     ensures predicates { MOST_PREDICATES ≡ 4096 }
-    ensures arguments { MOST_ARGUMENTS ≡ 8 }
-    ensures cases { MOST_CASES ≡ 16 }
-    ensures locals { (MOST_LOCALS ≡ 16) × (GREATEST_LOCAL ≡ 15) }
-    ensures pure { MOST_PURE ≡ 64 }
-    ensures spatial { MOST_SPATIAL ≡ 32 }
+    ensures first { limits One
+        ≡ record { arguments = 8; cases = 16; locals = 16; pure = 64; spatial = 16; cells = 16 } }
+    ensures second { limits Two
+        ≡ record { arguments = 8; cases = 16; locals = 16; pure = 64; spatial = 32; cells = 16 } }
+    ensures third { limits Three
+        ≡ record { arguments = 8; cases = 64; locals = 64; pure = 1024; spatial = 64; cells = 64 } }
     ensures disjuncts { MOST_DISJUNCTS ≡ 16 }
     ensures variable { GREATEST_VARIABLE ≡ 65534 }
     ensures lines { MOST_LINES ≡ 4096 }
     ensures program_variables { (MOST_VARIABLES ≡ 64) × (GREATEST_PROGRAM_VARIABLE ≡ 63) }
     ensures nodes { MOST_NODES ≡ 20000 }
-    ensures model { (MOST_CELLS ≡ 16) × (MOST_VALUES ≡ 65535) }
+    ensures values { MOST_VALUES ≡ 65535 }
     ensures universals { MOST_UNIVERSALS ≡ 8 }
     ensures constructors { MOST_CONSTRUCTORS ≡ 64 }
+    ensures theory { (MOST_FIRST_ORDER_ARGUMENTS ≡ 8) × (MOST_FIRST_ORDER_CASES ≡ 16)
+        × (GREATEST_FIRST_ORDER_LOCAL ≡ 15) }
     ensures atoms { (MOST_LEFT ≡ 32) × (MOST_RIGHT ≡ 16) × (MOST_CASE_ATOMS ≡ 16) }
     ensures terms { MOST_TERMS ≡ 4096 }
 {}

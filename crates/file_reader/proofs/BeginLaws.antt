@@ -5,7 +5,7 @@ use Rattle.std.proofs.lemmas.List.{length-map}
 use Rattle.cyc_lex.specs.Placed.{Placed}
 use Rattle.cyc_lex.specs.Word.{Word, word_of}
 use Rattle.heap_syntax.specs.declared.version.Version.{Version}
-use Rattle.heap_syntax.specs.Versions.{most_spatial}
+use Rattle.heap_syntax.specs.Versions.{limits}
 use Rattle.heap_reader.specs.Trees.{Heading, defined_headings}
 use Rattle.heap_reader.specs.Spans.{total}
 use Rattle.heap_reader.specs.Flaws.{Found as Flaws, or_later}
@@ -96,7 +96,7 @@ module _ (ts : List Placed) (f : Front) (rest : List Word) (b : IsBegun (map wor
 
   -- of the first node
   abbrev first : Flaws
-  first = node_flaw (most_spatial v) (headings ds) (length ls) 0 (front_size ds ls) x
+  first = node_flaw (limits v) (headings ds) (length ls) 0 (front_size ds ls) x
 
   abbrev all : Flaws
   all = file_flaw (tree_of v ds ls (x ∷ []))
@@ -104,8 +104,8 @@ module _ (ts : List Placed) (f : Front) (rest : List Word) (b : IsBegun (map wor
   all-is : all ≡ or_later front first
   all-is =
       file-flaws v ds ls [] (x ∷ [])
-      ∙ ap (or_later front) (later-none (node_flaw (most_spatial v) (headings ds) (length ls) 0 (front_size ds ls + 0)
-      x) ∙ ap (λ (k : ℕ). node_flaw (most_spatial v) (headings ds) (length ls) 0 k x) none)
+      ∙ ap (or_later front) (later-none (node_flaw (limits v) (headings ds) (length ls) 0 (front_size ds ls + 0)
+      x) ∙ ap (λ (k : ℕ). node_flaw (limits v) (headings ds) (length ls) 0 k x) none)
     where
       none : front_size ds ls + 0 ≡ front_size ds ls
       none = omega arith
@@ -147,11 +147,11 @@ module _ (ts : List Placed) (f : Front) (rest : List Word) (b : IsBegun (map wor
 
     -- of the first node as it is kept
     abbrev kept_first : Flaws
-    kept_first = node_flaw (most_spatial v) (headings ds) (length ls) 0 (front_size ds ls) (node_of f.first)
+    kept_first = node_flaw (limits v) (headings ds) (length ls) 0 (front_size ds ls) (node_of f.first)
 
-    kept-is : node_flaw (most_spatial old.known.version) hs old.known.lines (length old.found.nodes.items)
+    kept-is : node_flaw (limits old.known.version) hs old.known.lines (length old.found.nodes.items)
         old.found.tokens (node_of f.first) ≡ kept_first
-    kept-is = λ i. node_flaw (most_spatial (o.opened.version i)) (hs-is i) (o.opened.lines i)
+    kept-is = λ i. node_flaw (limits (o.opened.version i)) (hs-is i) (o.opened.lines i)
         (length (o.opened.nodes i)) ((o.opened.tokens ∙ b.before) i) (node_of f.first)
 
     first-is : kept_first ≡ first

@@ -3,11 +3,12 @@ use Rattle.std.proofs.Common.{◌≡◌, ℕ, zero, suc, ◌+◌, ◌-◌, ◌�
 use Rattle.std.proofs.Common.{None, Result, Ok, Err, refl, sym, ap, subst, ◌∙◌, arith, append_assoc}
 use Rattle.std.specs.Prelude.{map, slice_get}
 use Rattle.std.proofs.lemmas.List.{append-nil, drop_at, length-map, map-append}
+use Rattle.cyc_basics.specs.declared.limits.Limits.{Limits}
 use Rattle.cyc_lex.specs.Placed.{Placed}
 use Rattle.cyc_lex.specs.Word.{Word, word_of}
 use Rattle.cyc_grammar.specs.Syntax.{Reading, ◌>>=◌, all_taken, read_whole}
 use Rattle.heap_syntax.specs.declared.version.Version.{Version}
-use Rattle.heap_syntax.specs.Versions.{most_spatial}
+use Rattle.heap_syntax.specs.Versions.{limits}
 use Rattle.heap_reader.specs.Trees.{Heading}
 use Rattle.heap_reader.specs.Spans.{total}
 use Rattle.heap_reader.specs.Flaws.{Found, or_later, listed_flaw}
@@ -135,7 +136,7 @@ drop-twice (suc n) k (t ∷ ts) = drop-twice n k ts ∙ ap (λ m. drop m (t ∷ 
     same m = omega arith
 
 -- the flaws of nodes, each told by its own tokens
-told-nodes : (most : ℕ) (hs : List Heading) (lines : ℕ) (all : List Placed) (n before : ℕ) (rest : List Placed)
+told-nodes : (most : Limits) (hs : List Heading) (lines : ℕ) (all : List Placed) (n before : ℕ) (rest : List Placed)
     (xs : List Node) → rest ≡ drop before all → told_flaw 0 all
     (listed_flaw (node_flaw most hs lines) node_span n before xs) ≡ nodes_fault most hs lines n before rest xs
 told-nodes most hs lines all n before rest [] is = refl
@@ -155,19 +156,19 @@ told-nodes most hs lines all n before rest (x ∷ xs) is =
 -- a file's flaws are those of its front, and then those of its other nodes
 pub file-flaws : (v : Version) (ds : List Definition) (ls : List Line) (xs ns : List Node)
     → file_flaw (tree_of v ds ls (xs ++ ns)) ≡ or_later (file_flaw (tree_of v ds ls xs))
-    (listed_flaw (node_flaw (most_spatial v) (headings ds) (length ls)) node_span (length xs)
+    (listed_flaw (node_flaw (limits v) (headings ds) (length ls)) node_span (length xs)
     (first_node (tree_of v ds ls xs) + total node_span xs) ns)
 file-flaws v ds ls xs ns =
-    let d = listed_flaw (definition_flaw (most_spatial v) (headings ds)) definition_span 0 4 ds in
-    let p = program_flaw (first_line (tree_of v ds ls xs)) ls in
-    let other : ℕ → Found = λ n. listed_flaw (node_flaw (most_spatial v) (headings ds) (length ls)) node_span n
+    let d = listed_flaw (definition_flaw (limits v) (headings ds)) definition_span 0 4 ds in
+    let p = program_flaw (limits v) (first_line (tree_of v ds ls xs)) ls in
+    let other : ℕ → Found = λ n. listed_flaw (node_flaw (limits v) (headings ds) (length ls)) node_span n
     (first_node (tree_of v ds ls xs) + total node_span xs) ns in
     let none : 0 + length xs ≡ length xs = omega arith in
-    ap (λ (o : Found). or_later d (or_later p o)) (listed-append (node_flaw (most_spatial v) (headings ds) (length ls))
+    ap (λ (o : Found). or_later d (or_later p o)) (listed-append (node_flaw (limits v) (headings ds) (length ls))
     node_span 0 (first_node (tree_of v ds ls xs)) xs ns)
     ∙ ap (λ (n : ℕ). or_later d (or_later p (or_later (nodes_flaw (tree_of v ds ls xs)) (other n)))) none
     ∙ later-again d p (nodes_flaw (tree_of v ds ls xs))
-    (listed_flaw (node_flaw (most_spatial v) (headings ds) (length ls)) node_span (length xs)
+    (listed_flaw (node_flaw (limits v) (headings ds) (length ls)) node_span (length xs)
     (first_node (tree_of v ds ls xs) + total node_span xs) ns)
 
 begun-ok : (ts us : List Placed) (v : Version) (ds : List Definition) (ls : List Line) (xs ns : List Node)
@@ -179,28 +180,28 @@ begun-ok ts us v ds ls xs ns spell = λ i. settled (fault i) (said i)
     front = file_flaw (tree_of v ds ls xs)
 
     behind : Found
-    behind = listed_flaw (node_flaw (most_spatial v) (headings ds) (length ls)) node_span (length xs) (length ts) ns
+    behind = listed_flaw (node_flaw (limits v) (headings ds) (length ls)) node_span (length xs) (length ts) ns
 
     flaws : file_flaw (tree_of v ds ls (xs ++ ns)) ≡ or_later front behind
     flaws = file-flaws v ds ls xs ns ∙ ap (λ (k : ℕ). or_later front
-        (listed_flaw (node_flaw (most_spatial v) (headings ds) (length ls)) node_span (length xs) k ns))
+        (listed_flaw (node_flaw (limits v) (headings ds) (length ls)) node_span (length xs) k ns))
         (sym spell.size)
 
     within : Before front (length ts)
     within = subst (λ (k : ℕ). Before front k) (sym spell.size) (file_before (tree_of v ds ls xs))
 
-    later : told_flaw 0 (ts ++ us) behind ≡ nodes_fault (most_spatial v) (headings ds) (length ls) (length xs)
+    later : told_flaw 0 (ts ++ us) behind ≡ nodes_fault (limits v) (headings ds) (length ls) (length xs)
         (length ts) us ns
-    later = told-nodes (most_spatial v) (headings ds) (length ls) (ts ++ us) (length xs) (length ts) us ns
+    later = told-nodes (limits v) (headings ds) (length ls) (ts ++ us) (length xs) (length ts) us ns
         (sym (drop_at ts us (length ts) refl))
 
     both : told_flaw 0 (ts ++ us) (or_later front behind)
-        ≡ or_else (told_flaw 0 ts front) (nodes_fault (most_spatial v) (headings ds) (length ls) (length xs) (length ts)
+        ≡ or_else (told_flaw 0 ts front) (nodes_fault (limits v) (headings ds) (length ls) (length xs) (length ts)
         us ns)
     both = told-later 0 (ts ++ us) front behind ∙ (λ i. or_else (told-front ts us front within i) (later i))
 
     fault : told_flaw 0 (ts ++ us) (file_flaw (tree_of v ds ls (xs ++ ns)))
-        ≡ or_else (told_flaw 0 ts front) (nodes_fault (most_spatial v) (headings ds) (length ls) (length xs) (length ts)
+        ≡ or_else (told_flaw 0 ts front) (nodes_fault (limits v) (headings ds) (length ls) (length xs) (length ts)
         us ns)
     fault = ap (told_flaw 0 (ts ++ us)) flaws ∙ both
 

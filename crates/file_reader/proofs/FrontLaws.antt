@@ -2,13 +2,14 @@
 use Rattle.std.proofs.Common.{◌≡◌, ℕ, ◌+◌, ◌-◌, ◌≤◌, ◌<◌, Bool, true, false, List, [], ◌∷◌, ◌++◌, length, None, Ok, Err}
 use Rattle.std.proofs.Common.{refl, sym, ap, subst, ◌∙◌, arith, append_assoc, inl, inr, ◌⊎◌}
 use Rattle.std.proofs.lemmas.List.{append-nil, length-map, map_push}
+use Rattle.cyc_basics.specs.declared.limits.TheConstants.{MOST_PURE}
 use Rattle.cyc_lex.specs.Word.{Word}
 use Rattle.cyc_grammar.specs.Syntax.{Reading}
 use Rattle.cyc_grammar.specs.Giving.{Fails}
 use Rattle.cyc_grammar.specs.declared.cursor.Refusal.{Refusal}
 use Rattle.cyc_grammar.specs.declared.cursor.Refusal.TheVariants as refusals
 use Rattle.heap_syntax.specs.declared.version.Version.{Version}
-use Rattle.heap_syntax.specs.Versions.{most_spatial}
+use Rattle.heap_syntax.specs.Versions.{limits}
 use Rattle.heap_reader.specs.Trees.{Heading}
 use Rattle.heap_reader.specs.Flaws.{or_later, listed_flaw}
 use Rattle.heap_reader.specs.Spans.{total}
@@ -217,20 +218,20 @@ pub front-few : (v : Version) (ds : List Definition) (ls : List Line) → file_f
     → length ds ≤ 4096
 front-few v ds ls none =
     let t = tree_of v ds ls [] in
-    let defs = neither (listed_flaw (definition_flaw (most_spatial v) (headings ds)) definition_span 0 4 ds)
-    (or_later (program_flaw (first_line t) ls) (nodes_flaw t)) none in
-    (definitions_small (most_spatial v) (most_fits v) (headings ds) 4 ds defs.0).1
+    let defs = neither (listed_flaw (definition_flaw (limits v) (headings ds)) definition_span 0 4 ds)
+    (or_later (program_flaw (limits v) (first_line t) ls) (nodes_flaw t)) none in
+    (definitions_small (limits v) (most_fits v) (headings ds) 4 ds defs.0).1
 
 -- the first node, as it is kept
 module _ (ws : List Word) (f : Front) (rest : List Word) (b : IsBegun ws f rest) where
   pub begun-fits : node.fits (node_of f.first)
-  begun-fits = subst (λ (x : Node). node.fits x) (sym b.is) (node-fits 64 b.first b.fits)
+  begun-fits = subst (λ (x : Node). node.fits x) (sym b.is) (node-fits MOST_PURE b.first b.fits)
 
   pub begun-span : f.before + node_span (node_of f.first) ≤ length ws
-  begun-span = omega (arith, b.before, b.size, ap node_span b.is, node-span 64 b.first)
+  begun-span = omega (arith, b.before, b.size, ap node_span b.is, node-span MOST_PURE b.first)
 
   pub begun-size : front_size (front_defs f) f.lines.items ≤ f.before
-  begun-size = omega (arith, b.before, ap (total definition_span) b.are, definitions-span 64 b.definitions)
+  begun-size = omega (arith, b.before, ap (total definition_span) b.are, definitions-span MOST_PURE b.definitions)
 
   pub begun-few : (hs : List Heading) → hs ≡ headings (front_defs f)
       → file_flaw (tree_of f.version (front_defs f) f.lines.items []) ≡ None → length hs ≤ 4096

@@ -2,10 +2,11 @@
 use Rattle.std.proofs.Common.{◌≡◌, ℕ, ◌≤◌, Bool, true, false, List, [], ◌∷◌, Some, None, Ok, Err, refl, sym, ap, subst}
 use Rattle.std.proofs.Common.{◌∙◌, arith, inl, inr, ◌⊎◌}
 use Rattle.std.specs.Prelude.{map}
+use Rattle.cyc_basics.specs.declared.limits.TheConstants.{MOST_DISJUNCTS, MOST_PURE}
 use Rattle.cyc_lex.specs.Word.{Word}
 use Rattle.cyc_grammar.specs.Syntax.{Reading, ◌>>=◌}
 use Rattle.heap_syntax.specs.declared.version.Version.{Version}
-use Rattle.heap_syntax.specs.Versions.{most_spatial}
+use Rattle.heap_syntax.specs.Versions.{limits}
 use Rattle.heap_syntax.proofs.Fronts.{mapped}
 use Rattle.heap_reader.specs.Trees.{Heading, defined_headings}
 use Rattle.heap_reader.specs.Flaws.{Found, or_later, listed_flaw}
@@ -134,26 +135,30 @@ module _ (in_lines : Bool) (v : Version) (ws rest : List Word) where
 
 -- ---- flaws
 
-all-within : 64 ≤ 64
-all-within = omega arith
-
-few-within : 16 ≤ 64
+few-within : MOST_DISJUNCTS ≤ MOST_PURE
 few-within = omega arith
 
-module _ (v : Version) (hs : List Heading) where
-  spatials-within : most_spatial v ≤ 64
-  spatials-within = omega (arith, most_fits v)
+module _ (v : Version) where
+  pures-within : (limits v).pure ≤ MOST_PURE
+  pures-within = (most_fits v).pure
 
+  spatials-within : (limits v).spatial ≤ MOST_PURE
+  spatials-within = let few = (most_fits v).spatial in omega (arith, few)
+
+  cases-within : (limits v).cases ≤ MOST_PURE
+  cases-within = let few = (most_fits v).cases in omega (arith, few)
+
+module _ (v : Version) (hs : List Heading) where
   abbrev flaw_of : ℕ → ℕ → ℕ → Node → Found
-  flaw_of = node_flaw (most_spatial v) hs
+  flaw_of = node_flaw (limits v) hs
 
   module _ (count n k : ℕ) (tree x : Node) (is : tree ≡ node_front kept x) where
     pub same-flaw : flaw_of count n k tree ≡ flaw_of count n k x
-    same-flaw = ap (flaw_of count n k) is ∙ node_same (most_spatial v)
-        64 all-within spatials-within few-within hs count n k x
+    same-flaw = ap (flaw_of count n k) is ∙ node_same (limits v)
+        MOST_PURE (pures-within v) (spatials-within v) few-within hs count n k x
 
     pub same-node : flaw_of count n k tree ≡ None → tree ≡ x
-    same-node none = is ∙ node_whole (most_spatial v) 64 all-within spatials-within few-within hs count n k x
+    same-node none = is ∙ node_whole (limits v) MOST_PURE (pures-within v) (spatials-within v) few-within hs count n k x
         (sym same-flaw ∙ none)
 
     -- behind what was found before
@@ -173,24 +178,26 @@ values-headings hs [] = refl
 values-headings hs (d ∷ ds) = ap (λ (xs : List Heading). heading d ∷ xs) (values-headings hs ds)
 
 pub kept-headings : (ds : List Definition) → headings (map (definition_front kept) ds) ≡ headings ds
-kept-headings ds = same_headings 64 ds
+kept-headings ds = same_headings MOST_PURE ds
 
 module _ (v : Version) (ds : List Definition) (ls : List Line) where
   abbrev trees : List Definition
   trees = map (definition_front kept) ds
 
   abbrev defs_found : List Definition → Found
-  defs_found es = listed_flaw (definition_flaw (most_spatial v) (headings ds)) definition_span 0 4 es
+  defs_found es = listed_flaw (definition_flaw (limits v) (headings ds)) definition_span 0 4 es
 
   abbrev rest_found : List Definition → Found
-  rest_found es = or_later (program_flaw (first_line (tree_of v es ls [])) ls) (nodes_flaw (tree_of v es ls []))
+  rest_found es = or_later (program_flaw (limits v) (first_line (tree_of v es ls [])) ls)
+      (nodes_flaw (tree_of v es ls []))
 
   defs-same : defs_found trees ≡ defs_found ds
-  defs-same = definitions_flaw (most_spatial v) 64 all-within (spatials-within v []) few-within (headings ds) 0 4 ds
+  defs-same = definitions_flaw (limits v) MOST_PURE (pures-within v) (spatials-within v) (cases-within v)
+      (headings ds) 0 4 ds
 
   defs-whole : defs_found ds ≡ None → trees ≡ ds
-  defs-whole none = definitions_whole (most_spatial v) 64 all-within (spatials-within v []) few-within (headings ds)
-      0 4 ds none
+  defs-whole none = definitions_whole (limits v) MOST_PURE (pures-within v) (spatials-within v) (cases-within v)
+      (headings ds) 0 4 ds none
 
   both-found : (o : Found) → defs_found ds ≡ o → or_later (defs_found trees) (rest_found trees)
       ≡ or_later (defs_found ds) (rest_found ds)
@@ -201,7 +208,7 @@ module _ (v : Version) (ds : List Definition) (ls : List Line) where
   -- the first flaw before the nodes shows in what is kept
   pub kept-flaw : file_flaw (tree_of v trees ls []) ≡ file_flaw (tree_of v ds ls [])
   kept-flaw =
-      ap (λ (hs : List Heading). or_later (listed_flaw (definition_flaw (most_spatial v) hs) definition_span 0 4 trees)
+      ap (λ (hs : List Heading). or_later (listed_flaw (definition_flaw (limits v) hs) definition_span 0 4 trees)
       (rest_found trees)) (kept-headings ds)
       ∙ both-found (defs_found ds) refl
 

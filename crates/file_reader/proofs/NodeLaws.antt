@@ -5,10 +5,11 @@ use Rattle.std.proofs.Common.{inl, inr, ◌⊎◌}
 use Rattle.std.specs.Prelude.{map, slice_get}
 use Rattle.std.proofs.lemmas.List.{append-nil, take-append-drop, take-map, drop-map, take_at, drop_at, length-map}
 use Rattle.std.proofs.lemmas.List.{map_push, map-append}
+use Rattle.cyc_basics.specs.declared.limits.TheConstants.{MOST_PURE}
 use Rattle.cyc_lex.specs.declared.fault.ReadFault.{ReadFault}
 use Rattle.cyc_lex.specs.Placed.{Placed}
 use Rattle.cyc_lex.specs.Word.{Word, word_of}
-use Rattle.heap_syntax.specs.Versions.{most_spatial}
+use Rattle.heap_syntax.specs.Versions.{limits}
 use Rattle.heap_reader.specs.Trees.{Heading, defined_headings}
 use Rattle.heap_reader.specs.Spans.{total}
 use Rattle.heap_reader.specs.Flaws.{Found as Flaws, or_later}
@@ -45,14 +46,14 @@ pub later-fits : (vs rest : List Word) (tree : Node) → (kept_statement kept Am
     → node.fits tree
 later-fits vs rest tree e =
     let x = later-kept vs rest tree e in
-    subst (λ (y : Node). node.fits y) (sym x.2) (node-fits 64 x.0
+    subst (λ (y : Node). node.fits y) (sym x.2) (node-fits MOST_PURE x.0
     ((statement-law Among).takes vs (inl x.0, rest) x.1).2)
 
 pub later-span : (vs rest : List Word) (tree : Node) → (kept_statement kept Among).read vs ≡ Ok (inl tree, rest)
     → node_span tree ≤ length vs
 later-span vs rest tree e =
     let x = later-kept vs rest tree e in
-    omega (arith, statement-size Among vs rest (inl x.0) x.1, ap node_span x.2, node-span 64 x.0)
+    omega (arith, statement-size Among vs rest (inl x.0) x.1, ap node_span x.2, node-span MOST_PURE x.0)
 
 later-shrinks : (vs rest : List Word) (tree : Node) → (kept_statement kept Among).read vs ≡ Ok (inl tree, rest)
     → length rest < length vs
@@ -163,7 +164,7 @@ module _ (k : KnownFront) (hs : List Heading) (h : IsHeads k hs) (before : ℕ) 
   front = take (node_span x) us
 
   abbrev flaw_among : List Heading → Node → Flaws
-  flaw_among gs y = node_flaw (most_spatial k.version) gs k.lines (length old.nodes.items) old.tokens y
+  flaw_among gs y = node_flaw (limits k.version) gs k.lines (length old.nodes.items) old.tokens y
 
   abbrev own : List Heading
   own = defined_headings (defs_in k.front)
@@ -179,8 +180,8 @@ module _ (k : KnownFront) (hs : List Heading) (h : IsHeads k hs) (before : ℕ) 
       ap (told_flaw before ts) (same-flaw k.version hs k.lines (length old.nodes.items) old.tokens tree x is
       ∙ ap (λ (gs : List Heading). flaw_among gs x) h.value)
       ∙ told-within before old.tokens (node_span x) ts us (flaw_among own x) later at
-      (node_after (most_spatial k.version) own k.lines (length old.nodes.items) old.tokens x)
-      (node_before (most_spatial k.version) own k.lines (length old.nodes.items) old.tokens x)
+      (node_after (limits k.version) own k.lines (length old.nodes.items) old.tokens x)
+      (node_before (limits k.version) own k.lines (length old.nodes.items) old.tokens x)
 
   flaw : or_else old.flaw (told_flaw old.tokens front (flaw_among own x)) ≡ new.flaw
   flaw = sym (flaw-same ∙ added.flaw ∙ ap (or_else old.flaw) told)
@@ -257,15 +258,15 @@ module _ (k : KnownFront) (hs : List Heading) (h : IsHeads k hs) (before : ℕ) 
       number : length old.nodes.items ≡ length xs
       number = omega (arith, ap length t.nodes, length-map xs (node_value (headings ds)))
 
-      alone : node_flaw (most_spatial k.version) (headings ds) (length ls) (length xs) (length ts0) x ≡ None
-      alone = sym (λ i. node_flaw (most_spatial k.version) (hs-is i) (t.lines i) (number i) (place i) x)
+      alone : node_flaw (limits k.version) (headings ds) (length ls) (length xs) (length ts0) x ≡ None
+      alone = sym (λ i. node_flaw (limits k.version) (hs-is i) (t.lines i) (number i) (place i) x)
           ∙ sym (same-flaw k.version hs k.lines (length old.nodes.items) old.tokens tree x is) ∙ clear
 
       clean : file_flaw (tree_of k.version ds ls (xs ++ x ∷ [])) ≡ None
       clean =
           file-flaws k.version ds ls xs (x ∷ [])
           ∙ ap (λ (n : ℕ). or_later (file_flaw (tree_of k.version ds ls xs))
-          (or_later (node_flaw (most_spatial k.version) (headings ds) (length ls) (length xs) n x) None))
+          (or_later (node_flaw (limits k.version) (headings ds) (length ls) (length xs) n x) None))
           (sym t.spell.size)
           ∙ (λ i. or_later (t.clean i) (or_later (alone i) None))
 

@@ -4,7 +4,7 @@ use Rattle.std.specs.Prelude.{map}
 use Rattle.cyc_lex.specs.Placed.{Placed}
 use Rattle.cyc_lex.specs.Word.{word_of}
 use Rattle.cyc_lex.specs.declared.fault.ReadFault.{ReadFault}
-use Rattle.heap_syntax.specs.Versions.{most_spatial}
+use Rattle.heap_syntax.specs.Versions.{limits}
 use Rattle.proof_syntax.specs.Trees.{Node}
 use Rattle.file_reader.specs.Outcomes.{Outcome, Faulty, or_else, settled, syntax_fault}
 use Rattle.file_reader.specs.Stages.{Begun, Nodes, nodes_fault, said_with, nodes_left, nodes_outcome, ahead}
@@ -18,7 +18,7 @@ with-flaw : (b : Begun) (flaw : ReadFault) (us : List Placed) (q : Result (List 
     → nodes_outcome b us q ≡ flawed flaw b.tokens us q
 with-flaw b flaw us (Err left) is = refl
 with-flaw b flaw us (Ok xs) is = ap (λ (o : Option ReadFault). settled
-    (or_else o (nodes_fault (most_spatial b.version) b.headings b.lines b.count b.tokens us xs)) (said_with b xs)) is
+    (or_else o (nodes_fault (limits b.version) b.headings b.lines b.count b.tokens us xs)) (said_with b xs)) is
 
 -- the flaw, the number of tokens and whether "end;" came; and all of it where there is no flaw
 pub begun-same : (b c : Begun) → b.flaw ≡ c.flaw → b.tokens ≡ c.tokens → b.ended ≡ c.ended → (c.flaw ≡ None → b ≡ c)

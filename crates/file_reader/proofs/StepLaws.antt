@@ -11,7 +11,7 @@ use Rattle.cyc_grammar.specs.Syntax.{Reading, ◌>>=◌, Syntax, one, before, re
 use Rattle.cyc_grammar.specs.Classes.{the_end}
 use Rattle.cyc_grammar.proofs.Laws.{Lawful, one-law, before-law, whole_fault}
 use Rattle.cyc_grammar.proofs.ClassLaws.{symbol-law, keyword-law, the_end-law}
-use Rattle.heap_syntax.specs.Versions.{most_spatial}
+use Rattle.heap_syntax.specs.Versions.{limits}
 use Rattle.proof_syntax.specs.Trees.{Node}
 use Rattle.proof_syntax.specs.Grammar.{last_word, semicolon, node, more_nodes, file}
 use Rattle.proof_syntax.proofs.GrammarLaws.{more_nodes-law, more_nodes-close, file-law}
@@ -112,18 +112,18 @@ step-node b ts us x (Ok xs) span within = λ i. settled (fault i) (said i)
     rest = drop_at ts us (node_span x) (sym span)
 
     here : Option ReadFault
-    here = told_flaw b.tokens ts (node_flaw (most_spatial b.version) b.headings b.lines b.count b.tokens x)
+    here = told_flaw b.tokens ts (node_flaw (limits b.version) b.headings b.lines b.count b.tokens x)
 
     others : Option ReadFault
-    others = nodes_fault (most_spatial b.version) b.headings b.lines (suc b.count) (b.tokens + length ts) us xs
+    others = nodes_fault (limits b.version) b.headings b.lines (suc b.count) (b.tokens + length ts) us xs
 
-    both : nodes_fault (most_spatial b.version) b.headings b.lines b.count b.tokens (ts ++ us) (x ∷ xs)
+    both : nodes_fault (limits b.version) b.headings b.lines b.count b.tokens (ts ++ us) (x ∷ xs)
         ≡ or_else here others
-    both = λ i. or_else (told_flaw b.tokens (front i) (node_flaw (most_spatial b.version)
-        b.headings b.lines b.count b.tokens x)) (nodes_fault (most_spatial b.version) b.headings b.lines (suc b.count)
+    both = λ i. or_else (told_flaw b.tokens (front i) (node_flaw (limits b.version)
+        b.headings b.lines b.count b.tokens x)) (nodes_fault (limits b.version) b.headings b.lines (suc b.count)
         (b.tokens + span i) (rest i) xs)
 
-    fault : or_else b.flaw (nodes_fault (most_spatial b.version) b.headings b.lines b.count b.tokens (ts ++ us)
+    fault : or_else b.flaw (nodes_fault (limits b.version) b.headings b.lines b.count b.tokens (ts ++ us)
         (x ∷ xs)) ≡ or_else (or_else b.flaw here) others
     fault = ap (or_else b.flaw) both ∙ or-else-again b.flaw here others
 

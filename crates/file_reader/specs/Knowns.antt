@@ -2,7 +2,7 @@
 use Rattle.std.specs.Prelude.{◌≡◌, ℕ, ◌≤◌, false, List, [], ◌∷◌, ◌++◌, length, map, Option, Some, None}
 use Rattle.cyc_lex.specs.Placed.{Placed}
 use Rattle.cyc_basics.specs.declared.limits.TheConstants.{MOST_PREDICATES}
-use Rattle.heap_syntax.specs.Versions.{most_spatial}
+use Rattle.heap_syntax.specs.Versions.{limits}
 use Rattle.heap_formula.specs.declared.commands.Command.{Command}
 use Rattle.heap_formula.specs.Definitions.{Definition as DefinitionValue}
 use Rattle.heap_reader.specs.Trees.{Heading, defined_headings}
@@ -49,7 +49,7 @@ pub record IsHeads (k : KnownFront) (hs : List Heading) : Type 0 where
 pub record HasValues (k : KnownFront) (ds : List Definition) (ls : List Line) : Type 0 where
   pub front : FileFront
   pub is : k.front ≡ Some front
-  pub most : front.defs.most ≡ most_spatial k.version
+  pub most : front.defs.most ≡ limits k.version
   pub definitions : front.defs.list ≡ map (definition_value (headings ds)) ds
   pub program : front.program ≡ program_value ls
 
@@ -74,7 +74,7 @@ IsSteady k f = f.flaw ≡ None → IsTold k f
 pub record IsAdded (k : KnownFront) (hs : List Heading) (before : ℕ) (ts : List Placed) (x : Node) (old new : Found)
     : Type 0 where
   pub flaw : new.flaw ≡ or_else old.flaw (told_flaw before ts
-      (node_flaw (most_spatial k.version) hs k.lines (length old.nodes.items) old.tokens x))
+      (node_flaw (limits k.version) hs k.lines (length old.nodes.items) old.tokens x))
   pub nodes : new.flaw ≡ None → new.nodes.items ≡ old.nodes.items ++ node_value hs x ∷ []
   pub tokens : new.tokens ≡ old.tokens
   pub ended : new.ended ≡ old.ended

@@ -6,7 +6,7 @@ use Rattle.cyc_lex.specs.Placed.{Placed}
 use Rattle.cyc_lex.specs.Word.{word_of}
 use Rattle.cyc_grammar.specs.Syntax.{read_whole}
 use Rattle.heap_syntax.specs.declared.version.Version.{Version}
-use Rattle.heap_syntax.specs.Versions.{most_spatial}
+use Rattle.heap_syntax.specs.Versions.{limits}
 use Rattle.heap_formula.specs.declared.commands.Command.{Command}
 use Rattle.heap_formula.specs.Definitions.{Definition}
 use Rattle.heap_reader.specs.declared.flaw.Flaw.{Flaw}
@@ -34,7 +34,7 @@ pub data Outcome : Type 0 where
 -- this file says so
 pub record Has (s : Said) (f : ProofFile) : Type 0 where
   pub version : f.version ≡ s.version
-  pub most : f.defs.most ≡ most_spatial s.version
+  pub most : f.defs.most ≡ limits s.version
   pub definitions : f.defs.list ≡ s.definitions
   pub program : f.program ≡ s.program
   pub nodes : f.nodes ≡ s.nodes

@@ -1,6 +1,7 @@
 -- What a reader of a proof file holds that was fed some of the text, and what the text comes to, whatever is fed next.
 use Rattle.std.specs.Prelude.{ℕ, suc, ◌+◌, Bool, true, false, List, [], ◌∷◌, ◌++◌, take, drop, map, Option, None}
 use Rattle.std.specs.Prelude.{Result, Ok, Err}
+use Rattle.cyc_basics.specs.declared.limits.Limits.{Limits}
 use Rattle.cyc_lex.specs.declared.fault.LexFault.{LexFault}
 use Rattle.cyc_lex.specs.declared.fault.ReadFault.{ReadFault}
 use Rattle.cyc_lex.specs.declared.fault.ReadFault.TheVariants as faults
@@ -13,7 +14,7 @@ use Rattle.cyc_lex.specs.Word.{Word, word_of}
 use Rattle.cyc_grammar.specs.Syntax.{◌>>=◌, read_whole}
 use Rattle.piecewise_lex.specs.Feeding.{tokens_from}
 use Rattle.heap_syntax.specs.declared.version.Version.{Version}
-use Rattle.heap_syntax.specs.Versions.{most_spatial}
+use Rattle.heap_syntax.specs.Versions.{limits}
 use Rattle.heap_formula.specs.declared.commands.Command.{Command}
 use Rattle.heap_formula.specs.Definitions.{Definition}
 use Rattle.heap_reader.specs.Trees.{Heading}
@@ -45,7 +46,7 @@ pub record Begun : Type 0 where
   pub ended : Bool
 
 -- the first flaw of nodes, each with its own tokens; n nodes and `before` tokens came before
-abbrev pub nodes_fault : ℕ → List Heading → ℕ → ℕ → ℕ → List Placed → List Node → Option ReadFault
+abbrev pub nodes_fault : Limits → List Heading → ℕ → ℕ → ℕ → List Placed → List Node → Option ReadFault
 nodes_fault most hs lines n before ts [] = None
 nodes_fault most hs lines n before ts (x ∷ xs) =
     or_else (told_flaw before (take (node_span x) ts) (node_flaw most hs lines n before x))
@@ -68,7 +69,7 @@ nodes_left true ws = read_whole (left_of Ended) ws >>= λ u. Ok []
 abbrev pub nodes_outcome : Begun → List Placed → Result (List Node) ℕ → Outcome
 nodes_outcome b ts (Err left) = Faulty (syntax_fault b.tokens ts left)
 nodes_outcome b ts (Ok xs) =
-    settled (or_else b.flaw (nodes_fault (most_spatial b.version) b.headings b.lines b.count b.tokens ts xs))
+    settled (or_else b.flaw (nodes_fault (limits b.version) b.headings b.lines b.count b.tokens ts xs))
     (said_with b xs)
 
 -- ---- what a reader holds

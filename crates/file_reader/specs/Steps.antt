@@ -4,7 +4,7 @@ use Rattle.std.proofs.Common.{inl, inr}
 use Rattle.cyc_lex.specs.Placed.{Placed}
 use Rattle.cyc_lex.specs.Word.{Word, word_of}
 use Rattle.heap_syntax.specs.declared.version.Version.{Version}
-use Rattle.heap_syntax.specs.Versions.{most_spatial}
+use Rattle.heap_syntax.specs.Versions.{limits}
 use Rattle.heap_reader.specs.Spans.{total}
 use Rattle.heap_reader.specs.LineSpans.{line_span}
 use Rattle.proof_syntax.specs.Trees.{Definition, Line, Node, File}
@@ -76,7 +76,7 @@ with_node b ts x = record {
   nodes = b.nodes ++ node_value b.headings x ∷ [];
   count = suc b.count;
   tokens = b.tokens + length ts;
-  flaw = or_else b.flaw (told_flaw b.tokens ts (node_flaw (most_spatial b.version)
+  flaw = or_else b.flaw (told_flaw b.tokens ts (node_flaw (limits b.version)
       b.headings b.lines b.count b.tokens x));
   ended = b.ended;
 }

@@ -1,7 +1,7 @@
 -- The first flaw of terms and atoms, in the order of their tokens; at one token the order of the table: unknown, arity,
 -- arguments, cases, atoms, terms.
 use Rattle.std.specs.Prelude.{◌≡◌, ℕ, ◌+◌, nat_lt, nat_le, List, [], ◌∷◌, length, drop, Some, None, Result, Ok, Err}
-use Rattle.cyc_basics.specs.declared.limits.TheConstants.{GREATEST_LOCAL, GREATEST_VARIABLE, MOST_TERMS}
+use Rattle.cyc_basics.specs.declared.limits.TheConstants.{GREATEST_FIRST_ORDER_LOCAL, GREATEST_VARIABLE, MOST_TERMS}
 use Rattle.cyc_lex.specs.declared.fault.IllFault.TheVariants.{Parameter}
 use Rattle.cyc_lex.specs.declared.fault.What.TheVariants.{Atoms, Locals, Terms, Variable as VariableLimit}
 use Rattle.heap_reader.specs.Trees.{Heading}
@@ -31,7 +31,7 @@ module _ (constructors : List Heading) (scope : Scope) where
   abbrev pub sign_flaw : ℕ → ℕ → Found → Sign → Found
   sign_flaw m k limit (Variable n) = or_later limit (or_later (terms_flaw m k) (variable_flaw scope (k + 1) n))
   sign_flaw m k limit (Local n) = or_later limit (or_later (terms_flaw m k)
-      (over_if (nat_lt GREATEST_LOCAL n) Locals (k + 1)))
+      (over_if (nat_lt GREATEST_FIRST_ORDER_LOCAL n) Locals (k + 1)))
   sign_flaw m k limit (Apply name n) = or_later (use_flaw (arity_in constructors name) n k)
       (or_later limit (terms_flaw m k))
 

@@ -2,7 +2,7 @@
 -- which token. At one token what is ill-formed goes before limits.
 use Rattle.std.specs.Prelude.{ℕ, ◌+◌, ◌&&◌, ◌||◌, not, nat_eq, nat_lt, nat_le, is_some, List, [], ◌∷◌, length, map}
 use Rattle.std.specs.Prelude.{take, None}
-use Rattle.cyc_basics.specs.declared.limits.TheConstants.{MOST_ARGUMENTS, MOST_CASES, MOST_CASE_ATOMS}
+use Rattle.cyc_basics.specs.declared.limits.TheConstants.{MOST_FIRST_ORDER_ARGUMENTS, MOST_FIRST_ORDER_CASES, MOST_CASE_ATOMS}
 use Rattle.cyc_basics.specs.declared.limits.TheConstants.{MOST_CONSTRUCTORS, MOST_LEFT, MOST_NODES, MOST_PREDICATES}
 use Rattle.cyc_basics.specs.declared.limits.TheConstants.{MOST_RIGHT}
 use Rattle.cyc_lex.specs.declared.fault.IllFault.TheVariants.{Duplicate, Constant}
@@ -37,7 +37,7 @@ predicate_heads ds = map predicate_heading ds
 
 -- a number of arguments is at most eight
 abbrev pub arguments_flaw : ℕ → ℕ → Found
-arguments_flaw k n = over_if (nat_lt MOST_ARGUMENTS n) Arguments k
+arguments_flaw k n = over_if (nat_lt MOST_FIRST_ORDER_ARGUMENTS n) Arguments k
 
 -- the first constructor is a constant
 abbrev pub constant_flaw : ℕ → ℕ → ℕ → Found
@@ -77,7 +77,7 @@ module _ (constructors : List Heading) where
     -- at most sixteen cases of a predicate with so many parameters, of at most sixteen atoms each
     abbrev pub case_flaw : ℕ → ℕ → ℕ → List Atom → Found
     case_flaw arity n k xs = side_flaw constructors (InCase arity) predicates MOST_CASE_ATOMS 0 k
-        (over_if (nat_le MOST_CASES n) Cases k) xs
+        (over_if (nat_le MOST_FIRST_ORDER_CASES n) Cases k) xs
 
     abbrev pub cases_flaw : ℕ → ℕ → List (List Atom) → Found
     cases_flaw arity k cases = listed_flaw (case_flaw arity) atoms_span 0 k cases

@@ -1,6 +1,6 @@
 -- Sequents and definitions within the limits on atoms, cases and terms.
 use Rattle.std.specs.Prelude.{◌≤◌, length, List}
-use Rattle.cyc_basics.specs.declared.limits.TheConstants.{MOST_CASES, MOST_CASE_ATOMS, MOST_LEFT, MOST_RIGHT}
+use Rattle.cyc_basics.specs.declared.limits.TheConstants.{MOST_FIRST_ORDER_CASES, MOST_CASE_ATOMS, MOST_LEFT, MOST_RIGHT}
 use Rattle.cyc_basics.specs.declared.limits.TheConstants.{MOST_TERMS}
 use Rattle.heap_formula.specs.Words.{Each}
 use Rattle.fo_formula.specs.declared.atoms.FoAtom.{FoAtom}
@@ -16,5 +16,5 @@ pub record IsSmallSequent (s : FoSequent) : Type 0 where
 
 -- at most 16 cases, each of at most 16 atoms
 pub record IsSmallDefinition (d : FoDefinition) : Type 0 where
-  pub cases : length d.cases ≤ MOST_CASES
+  pub cases : length d.cases ≤ MOST_FIRST_ORDER_CASES
   pub atoms : Each (λ (c : List FoAtom). length c ≤ MOST_CASE_ATOMS) d.cases

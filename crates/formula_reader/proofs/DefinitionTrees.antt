@@ -6,6 +6,8 @@ use Rattle.std.specs.Str.{bytes_eq}
 use Rattle.std.proofs.lemmas.Bool.{le-leb, le-ltb, lt-leb}
 use Rattle.std.proofs.lemmas.Option.{slice_get_within}
 use Rattle.std.proofs.lemmas.Slice.Eq.{bytes_eq-Decides}
+use Rattle.cyc_basics.specs.declared.limits.Limits.{Limits}
+use Rattle.cyc_basics.specs.Limits.{AreLimits}
 use Rattle.heap_formula.specs.declared.terms.Term.{Term}
 use Rattle.heap_formula.specs.declared.terms.Term.TheVariants.{Nil, Univ, Exist}
 use Rattle.heap_formula.specs.Closedness.{InHeap}
@@ -39,16 +41,17 @@ use Rattle.heap_formula.proofs.FactExistentials.{heap_bounded}
 
 -- ---- the trees fit
 
-case_heaps : (limit : ℕ) (ds : List Definition) (arity : ℕ) (cs : List SymbolicHeap)
+case_heaps : (limit : Limits) (ds : List Definition) (arity : ℕ) (cs : List SymbolicHeap)
     → Each (IsCaseWithin limit ds arity) cs → Each (IsHeapWithin limit ds) cs
 case_heaps limit ds arity cs w = each_imply (IsCaseWithin limit ds arity) (IsHeapWithin limit ds) (λ c x. x.heap) cs w
 
-module _ (limit : ℕ) (ds : List Definition) (free : HaveFreeNames ds) where
+module _ (limit : Limits) (bounded : AreLimits limit) (ds : List Definition) (free : HaveFreeNames ds) where
   definition_fits : (d : Definition) → is_free_name reserved d.name ≡ true → IsDefinitionWithin limit ds d
       → grammar.definition.fits (definition_tree ds d)
   unfolding grammar.definition grammar.cases
   definition_fits d named w =
-      let few = w.arity in (
+      let few = w.arity in
+      let most = bounded.arguments in (
         tt,
         (
           named,
@@ -69,16 +72,20 @@ module _ (limit : ℕ) (ds : List Definition) (free : HaveFreeNames ds) where
 
 -- ---- the terms of a case have no flaw
 
-term_flawless : (arity : ℕ) (t : Term) → IsBelow arity t → exist_bound t ≤ 16 → IsFlawless (term_flaw (InCase arity)) t
-term_flawless arity Nil below few k = refl
-term_flawless arity (Univ n) below few k = ap (λ (b : Bool). ill_if b Parameter (k + 1)) (lt-leb arity n (omega arith))
-term_flawless arity (Exist n) below few k = ap (λ (b : Bool). over_if b Locals (k + 1)) (le-ltb 15 n (omega arith))
+term_flawless : (arity locals : ℕ) (t : Term) → IsBelow arity t → exist_bound t ≤ locals
+    → IsFlawless (term_flaw (InCase arity locals)) t
+term_flawless arity locals Nil below few k = refl
+term_flawless arity locals (Univ n) below few k = ap (λ (b : Bool). ill_if b Parameter (k + 1)) (lt-leb arity n
+    (omega arith))
+term_flawless arity locals (Exist n) below few k = ap (λ (b : Bool). over_if b Locals (k + 1))
+    (lt-leb locals n (omega arith))
 
-case_flawless : (limit : ℕ) (ds : List Definition) (arity : ℕ) (c : SymbolicHeap) → IsCaseWithin limit ds arity c
-    → InHeap (IsFlawless (term_flaw (InCase arity))) c
+case_flawless : (limit : Limits) (ds : List Definition) (arity : ℕ) (c : SymbolicHeap) → IsCaseWithin limit ds arity c
+    → InHeap (IsFlawless (term_flaw (InCase arity limit.locals))) c
 case_flawless limit ds arity c w =
-    in_heap_both (IsBelow arity) (λ t. exist_bound t ≤ 16) (IsFlawless (term_flaw (InCase arity))) (term_flawless arity)
-    c (heap_below arity c w.parameters) (heap_bounded 16 c w.locals)
+    in_heap_both (IsBelow arity) (λ t. exist_bound t ≤ limit.locals) (IsFlawless (term_flaw
+        (InCase arity limit.locals)))
+    (term_flawless arity limit.locals) c (heap_below arity c w.parameters) (heap_bounded limit.locals c w.locals)
 
 -- ---- no definition before has the name
 
@@ -111,10 +118,10 @@ none_at flaw span tree n k (x ∷ xs) h =
     subst (λ (m : ℕ). flaw m j (tree y) ≡ None) next (h (suc i) y at j))) in
     none_later (flaw n k (tree x)) (listed_flaw flaw span (suc n) (k + span (tree x)) (map tree xs)) first rest
 
-module _ (limit : ℕ) (ds : List Definition) (few : length ds ≤ 4096) (own : HaveOwnNames ds)
-    (w : Each (IsDefinitionWithin limit ds) ds) where
-  head_flawless : (n k : ℕ) (d : Definition) → slice_get ds n ≡ Some d → d.arity ≤ 8
-      → head_flaw (heads_of ds ds) n k (definition_tree ds d) ≡ None
+module _ (limit : Limits) (wide : 8 ≤ limit.arguments) (ds : List Definition) (few : length ds ≤ 4096)
+    (own : HaveOwnNames ds) (w : Each (IsDefinitionWithin limit ds) ds) where
+  head_flawless : (n k : ℕ) (d : Definition) → slice_get ds n ≡ Some d → d.arity ≤ limit.arguments
+      → head_flaw limit (heads_of ds ds) n k (definition_tree ds d) ≡ None
   head_flawless n k d at narrow =
       let within = slice_get_within ds n d at in
       let new = new_name ds ds n d.name (λ p e less at_p same. (
@@ -122,20 +129,20 @@ module _ (limit : ℕ) (ds : List Definition) (few : length ds ≤ 4096) (own : 
       omega arith)) in
       let not_taken = ap (λ (o : Option ℕ). ill_if (is_some o) Duplicate (k + 1)) new in
       let first = ap (λ (b : Bool). over_if b Predicates k) (lt-leb 4096 n (omega arith)) in
-      let last = ap (λ (b : Bool). over_if b Arguments (k + 3)) (le-ltb 8 d.arity narrow) in
+      let last = ap (λ (b : Bool). over_if b Arguments (k + 3)) (le-ltb limit.arguments d.arity narrow) in
       none_later (over_if (nat_le 4096 n) Predicates k) _ first
       (none_later (ill_if (is_some (arity_in (take n (heads_of ds ds)) d.name)) Duplicate (k + 1))
-      (over_if (nat_lt 8 d.arity) Arguments (k + 3)) not_taken last)
+      (over_if (nat_lt limit.arguments d.arity) Arguments (k + 3)) not_taken last)
 
   definition_flawless : (n k : ℕ) (d : Definition) → slice_get ds n ≡ Some d → IsDefinitionWithin limit ds d
       → definition_flaw limit (heads_of ds ds) n k (definition_tree ds d) ≡ None
   definition_flawless n k d at x =
-      let scope = InCase d.arity in
-      let cases = heaps_flawless (term_flaw scope) term_span limit ds own (few_parameters limit ds ds w)
+      let scope = InCase d.arity limit.locals in
+      let cases = heaps_flawless (term_flaw scope) term_span limit wide ds own (few_parameters limit ds ds w)
       Cases d.cases x.few (case_heaps limit ds d.arity d.cases x.cases)
       (each_imply (IsCaseWithin limit ds d.arity) (InHeap (IsFlawless (term_flaw scope)))
       (case_flawless limit ds d.arity) d.cases x.cases) (k + 6) in
-      none_later (head_flaw (heads_of ds ds) n k (definition_tree ds d))
+      none_later (head_flaw limit (heads_of ds ds) n k (definition_tree ds d))
       (heaps_flaw (term_flaw scope) term_span limit (heads_of ds ds) Cases (k + 6) (map (heap_tree ds) d.cases))
       (head_flawless n k d at x.arity) cases
 
@@ -149,8 +156,11 @@ module _ (limit : ℕ) (ds : List Definition) (few : length ds ≤ 4096) (own : 
 
 -- ---- their cases are few
 
-pub few_cases : (limit : ℕ) (ds xs : List Definition) → Each (IsDefinitionWithin limit ds) xs
-    → all_have_few_cases xs ≡ true
-few_cases limit ds xs w = all_pass has_few_cases xs
-    (each_imply (IsDefinitionWithin limit ds) (λ d. has_few_cases d ≡ true) (λ d x. le-leb (length d.cases) 16 x.few)
+pub few_cases : (limit : Limits) → AreLimits limit → (ds xs : List Definition)
+    → Each (IsDefinitionWithin limit ds) xs → all_have_few_cases xs ≡ true
+few_cases limit bounded ds xs w = all_pass has_few_cases xs
+    (each_imply (IsDefinitionWithin limit ds) (λ d. has_few_cases d ≡ true) (λ d x. (
+    let few = x.few in
+    let most = bounded.cases in
+    le-leb (length d.cases) 64 (omega arith)))
     xs w)

@@ -8,6 +8,7 @@ use Rattle.std.specs.Option.{option_map, option_or}
 use Rattle.std.proofs.lemmas.Bool.{and_from, and_parts, or_parts, or_from, ltb-false, le-ltb, ltb-true, lt-ltb}
 use Rattle.std.proofs.lemmas.Bool.{eqb-false, ne_eqb}
 use Rattle.std.proofs.lemmas.Slice.Eq.{bytes_eq-Decides}
+use Rattle.cyc_basics.specs.declared.limits.Limits.{Limits}
 use Rattle.heap_formula.specs.declared.atoms.Spatial.{Spatial}
 use Rattle.heap_formula.specs.declared.atoms.Spatial.TheVariants.{Cell, Pred}
 use Rattle.heap_formula.specs.declared.commands.Command.{Command}
@@ -83,7 +84,7 @@ known_used ds (x ∷ xs) e =
 
 -- ---- heaps
 
-module _ (most : ℕ) (ds : List Definition) where
+module _ (most : Limits) (ds : List Definition) where
   pub heap_exact : (a : SymbolicHeap) → heap_excess most ds a ≡ None → IsHeapWithin most ds a
   heap_exact a e =
       let known = list_all (is_use ds) a.spatial in
@@ -116,11 +117,11 @@ module _ (most : ℕ) (ds : List Definition) where
   case_exact arity c e =
       let parts = neither_some (option_map Heap (heap_excess most ds c)) _ e in
       let first = not_chosen (nat_lt arity (heap_bound c)) Parameter _ parts.1 in
-      let second = not_chosen (nat_lt 16 (heap_exists c)) Locals None first.1 in
+      let second = not_chosen (nat_lt most.locals (heap_exists c)) Locals None first.1 in
       record {
         heap = heap_exact c (unmapped Heap (heap_excess most ds c) parts.0);
         parameters = ltb-false arity (heap_bound c) first.0;
-        locals = ltb-false 16 (heap_exists c) second.0;
+        locals = ltb-false most.locals (heap_exists c) second.0;
       }
 
   case_none : (arity : ℕ) (c : SymbolicHeap) → IsCaseWithin most ds arity c → case_excess most ds arity c ≡ None
@@ -128,7 +129,7 @@ module _ (most : ℕ) (ds : List Definition) where
       both_none (option_map Heap (heap_excess most ds c)) _
       (mapped_none Heap (heap_excess most ds c) (heap_none c w.heap))
       (none_chosen (nat_lt arity (heap_bound c)) Parameter _ (le-ltb arity (heap_bound c) w.parameters)
-      (none_chosen (nat_lt 16 (heap_exists c)) Locals None (le-ltb 16 (heap_exists c) w.locals) refl))
+      (none_chosen (nat_lt most.locals (heap_exists c)) Locals None (le-ltb most.locals (heap_exists c) w.locals) refl))
 
   cases_exact : (arity : ℕ) (cs : List SymbolicHeap) → first_of (case_at most ds arity) 0 cs ≡ None
       → Each (IsCaseWithin most ds arity) cs
@@ -150,15 +151,16 @@ module _ (most : ℕ) (ds : List Definition) where
     free : is_free_name reserved d.name ≡ true
     new : has_name (take n ds) d.name ≡ false
 
-  some_cases : (n : ℕ) → (nat_eq n 0 || nat_lt 16 n) ≡ false → (0 < n) × (n ≤ 16)
+  some_cases : (n : ℕ) → (nat_eq n 0 || nat_lt most.cases n) ≡ false → (0 < n) × (n ≤ most.cases)
   some_cases n e =
-      let b = or_parts (nat_eq n 0) (nat_lt 16 n) e in
+      let b = or_parts (nat_eq n 0) (nat_lt most.cases n) e in
       let some = eqb-false n 0 b.0 in
-      let few = ltb-false 16 n b.1 in
+      let few = ltb-false most.cases n b.1 in
       (omega arith, few)
 
-  cases_some : (n : ℕ) → 0 < n → n ≤ 16 → (nat_eq n 0 || nat_lt 16 n) ≡ false
-  cases_some n some few = or_from (nat_eq n 0) (nat_lt 16 n) (ne_eqb n 0 (λ e. omega (arith, e))) (le-ltb 16 n few)
+  cases_some : (n : ℕ) → 0 < n → n ≤ most.cases → (nat_eq n 0 || nat_lt most.cases n) ≡ false
+  cases_some n some few = or_from (nat_eq n 0) (nat_lt most.cases n) (ne_eqb n 0 (λ e. omega (arith, e)))
+      (le-ltb most.cases n few)
 
   definition_exact : (n : ℕ) (d : Definition) → definition_excess most ds n d ≡ None → IsGood n d
   definition_exact n d e =
@@ -166,12 +168,12 @@ module _ (most : ℕ) (ds : List Definition) where
       let count = length d.cases in
       let first = not_chosen (not free) Name _ e in
       let second = not_chosen (has_name (take n ds) d.name) Duplicate _ first.1 in
-      let third = not_chosen (nat_lt 8 d.arity) Parameters _ second.1 in
-      let fourth = not_chosen (nat_eq count 0 || nat_lt 16 count) Cases _ third.1 in
+      let third = not_chosen (nat_lt most.arguments d.arity) Parameters _ second.1 in
+      let fourth = not_chosen (nat_eq count 0 || nat_lt most.cases count) Cases _ third.1 in
       let size = some_cases count fourth.0 in
       record {
         within = record {
-          arity = ltb-false 8 d.arity third.0;
+          arity = ltb-false most.arguments d.arity third.0;
           some_case = size.0;
           few = size.1;
           cases = cases_exact d.arity d.cases fourth.1;
@@ -186,8 +188,9 @@ module _ (most : ℕ) (ds : List Definition) where
       let count = length d.cases in
       none_chosen (not free) Name _ (not_failed free g.free)
       (none_chosen (has_name (take n ds) d.name) Duplicate _ g.new
-      (none_chosen (nat_lt 8 d.arity) Parameters _ (le-ltb 8 d.arity g.within.arity)
-      (none_chosen (nat_eq count 0 || nat_lt 16 count) Cases _ (cases_some count g.within.some_case g.within.few)
+      (none_chosen (nat_lt most.arguments d.arity) Parameters _ (le-ltb most.arguments d.arity g.within.arity)
+      (none_chosen (nat_eq count 0 || nat_lt most.cases count) Cases _
+      (cases_some count g.within.some_case g.within.few)
       (cases_none d.arity d.cases g.within.cases))))
 
 -- ---- names
@@ -246,43 +249,49 @@ module _ (ds : List Definition) where
 
 -- ---- lines
 
-command_is : (version : Version) (c : Command) → is_command_of version c ≡ true → IsCommandOf version c
-command_is version (commands.IfAny j) e = e
-command_is version (commands.Assign x t) e = tt
-command_is version (commands.Load x t k) e = tt
-command_is version (commands.Store t k u) e = tt
-command_is version (commands.New x k) e = tt
-command_is version (commands.Free t) e = tt
-command_is version (commands.IfEq t u j) e = tt
-command_is version (commands.IfNeq t u j) e = tt
-command_is version (commands.Goto j) e = tt
-command_is version commands.Stop e = tt
+command_is : (version : Version) (most : Limits) (c : Command) → is_command_of version most c ≡ true
+    → IsCommandOf version most c
+command_is version most (commands.IfAny j) e = e
+command_is version most (commands.Assign x t) e = tt
+command_is version most (commands.Load x t k) e = leb-true k most.arguments e
+command_is version most (commands.Store t k u) e = leb-true k most.arguments e
+command_is version most (commands.New x k) e = leb-true k most.arguments e
+command_is version most (commands.Free t) e = tt
+command_is version most (commands.IfEq t u j) e = tt
+command_is version most (commands.IfNeq t u j) e = tt
+command_is version most (commands.Goto j) e = tt
+command_is version most commands.Stop e = tt
 
-command_passes : (version : Version) (c : Command) → IsCommandOf version c → is_command_of version c ≡ true
-command_passes version (commands.IfAny j) e = e
-command_passes version (commands.Assign x t) e = refl
-command_passes version (commands.Load x t k) e = refl
-command_passes version (commands.Store t k u) e = refl
-command_passes version (commands.New x k) e = refl
-command_passes version (commands.Free t) e = refl
-command_passes version (commands.IfEq t u j) e = refl
-command_passes version (commands.IfNeq t u j) e = refl
-command_passes version (commands.Goto j) e = refl
-command_passes version commands.Stop e = refl
+command_passes : (version : Version) (most : Limits) (c : Command) → IsCommandOf version most c
+    → is_command_of version most c ≡ true
+command_passes version most (commands.IfAny j) e = e
+command_passes version most (commands.Assign x t) e = refl
+command_passes version most (commands.Load x t k) e = le-leb k most.arguments e
+command_passes version most (commands.Store t k u) e = le-leb k most.arguments e
+command_passes version most (commands.New x k) e = le-leb k most.arguments e
+command_passes version most (commands.Free t) e = refl
+command_passes version most (commands.IfEq t u j) e = refl
+command_passes version most (commands.IfNeq t u j) e = refl
+command_passes version most (commands.Goto j) e = refl
+command_passes version most commands.Stop e = refl
 
-lines_exact : (version : Version) (cs : List Command) → lines_excess version cs ≡ None → Each (IsCommandOf version) cs
-lines_exact version cs e =
-    each_from (IsCommandOf version) cs (λ i c at. command_is version c
-    (chosen_none (is_command_of version c) (OfCommand (0 + i + 1)) (none_of_each (line_at version) 0 cs e i c at)))
+lines_exact : (version : Version) (most : Limits) (cs : List Command) → lines_excess version most cs ≡ None
+    → Each (IsCommandOf version most) cs
+lines_exact version most cs e =
+    each_from (IsCommandOf version most) cs (λ i c at. command_is version most c
+    (chosen_none (is_command_of version most c) (OfCommand (0 + i + 1))
+    (none_of_each (line_at version most) 0 cs e i c at)))
 
-lines_none : (version : Version) (cs : List Command) → Each (IsCommandOf version) cs → lines_excess version cs ≡ None
-lines_none version cs w =
-    each_of_none (line_at version) 0 cs (λ i c at. none_where (is_command_of version c) (OfCommand (0 + i + 1))
-    (command_passes version c (each_at (IsCommandOf version) cs i c at w)))
+lines_none : (version : Version) (most : Limits) (cs : List Command) → Each (IsCommandOf version most) cs
+    → lines_excess version most cs ≡ None
+lines_none version most cs w =
+    each_of_none (line_at version most) 0 cs (λ i c at. none_where (is_command_of version most c) (OfCommand
+        (0 + i + 1))
+    (command_passes version most c (each_at (IsCommandOf version most) cs i c at w)))
 
 -- ---- judgements
 
-module _ (most : ℕ) (ds : List Definition) where
+module _ (most : Limits) (ds : List Definition) where
   antecedent_exact : (a : SymbolicHeap) → antecedent_excess most ds a ≡ None
       → IsHeapWithin most ds a × (is_universal_heap a ≡ true)
   antecedent_exact a e =
@@ -387,9 +396,9 @@ module _ (most : ℕ) (ds : List Definition) where
 
 -- ---- problems
 
-module _ (version : Version) (most : ℕ) (ds : List Definition) (lines : List Command) (goal : Judgement) where
+module _ (version : Version) (most : Limits) (ds : List Definition) (lines : List Command) (goal : Judgement) where
   pub problem_exact : length ds ≤ 4096 → IsProgram lines → IsJudgementWithin most ds (length lines) goal
-      → definitions_excess most ds ≡ None → lines_excess version lines ≡ None
+      → definitions_excess most ds ≡ None → lines_excess version most lines ≡ None
       → IsProblemWithin version most ds lines goal
   problem_exact few program judged none known =
       let good = λ (n : ℕ) (d : Definition) (at : slice_get ds n ≡ Some d). definition_exact most ds (0 + n) d
@@ -403,7 +412,7 @@ module _ (version : Version) (most : ℕ) (ds : List Definition) (lines : List C
             let here : 0 + n ≡ n = omega arith in
             subst (λ (m : ℕ). has_name (take m ds) d.name ≡ false) here (good n d at).new));
         program = program;
-        commands = lines_exact version lines known;
+        commands = lines_exact version most lines known;
         goal = judged;
       }
 
@@ -419,7 +428,7 @@ module _ (version : Version) (most : ℕ) (ds : List Definition) (lines : List C
             subst (λ (m : ℕ). has_name (take m ds) d.name ≡ false) here (names_new ds w.own n d at));
       }))) in
       both_none (definitions_excess most ds) _ definitions
-      (both_none (lines_excess version lines) _ (lines_none version lines w.commands)
+      (both_none (lines_excess version most lines) _ (lines_none version most lines w.commands)
       (mapped_none OfGoal (judgement_excess most ds (length lines) goal)
       (judgement_none most ds (length lines) goal w.goal)))
 
@@ -432,13 +441,13 @@ module _ (version : Version) (most : ℕ) (ds : List Definition) (lines : List C
 
   -- the parts of what is found of a problem that is within them
   parts_none : IsProblemWithin version most ds lines goal
-      → (definitions_excess most ds ≡ None) × (lines_excess version lines ≡ None)
+      → (definitions_excess most ds ≡ None) × (lines_excess version most lines ≡ None)
       × (judgement_excess most ds (length lines) goal ≡ None)
   parts_none w =
       let judged = judgement_excess most ds (length lines) goal in
       let first = neither_some (definitions_excess most ds)
-      (option_or (lines_excess version lines) (option_map OfGoal judged)) (problem_none w) in
-      let second = neither_some (lines_excess version lines) (option_map OfGoal judged) first.1 in
+      (option_or (lines_excess version most lines) (option_map OfGoal judged)) (problem_none w) in
+      let second = neither_some (lines_excess version most lines) (option_map OfGoal judged) first.1 in
       (first.0, second.0, unmapped OfGoal judged second.1)
 
   pub definitions_over : (r : Option ProblemExcess) (e : ProblemExcess) → r ≡ definitions_excess most ds → r ≡ Some e
@@ -446,10 +455,10 @@ module _ (version : Version) (most : ℕ) (ds : List Definition) (lines : List C
   definitions_over r e found here = (λ none. absurd cc, λ w. sym here ∙ found ∙ (parts_none w).0)
 
   pub lines_over : (r : Option ProblemExcess) (e : ProblemExcess) (cs : List Command) → cs ≡ lines
-      → r ≡ lines_excess version cs → r ≡ Some e → TellsOfAll (Some e)
+      → r ≡ lines_excess version most cs → r ≡ Some e → TellsOfAll (Some e)
   lines_over r e cs same found here = (
     λ none. absurd cc,
-    λ w. sym here ∙ found ∙ ap (lines_excess version) same
+    λ w. sym here ∙ found ∙ ap (lines_excess version most) same
         ∙ (parts_none w).1,
   )
 

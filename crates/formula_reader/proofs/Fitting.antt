@@ -1,4 +1,7 @@
 -- A problem without a flaw fits the values' types.
+use Rattle.cyc_basics.specs.declared.limits.Limits.{Limits}
+use Rattle.cyc_basics.specs.declared.limits.TheConstants.{MOST_ARGUMENTS, MOST_LOCALS}
+use Rattle.cyc_basics.specs.Limits.{AreLimits}
 use Rattle.std.proofs.Common.{◌≡◌, ℕ, ◌+◌, ◌<◌, ◌≤◌, List, length, take, None, arith}
 use Rattle.std.specs.Prelude.{nat_eq, nat_lt, nat_le, is_some, ◌||◌}
 use Rattle.std.specs.List.{list_any}
@@ -6,7 +9,7 @@ use Rattle.std.specs.Str.{bytes_eq}
 use Rattle.cyc_lex.specs.declared.fault.What.TheVariants.{Arguments, Cases, Disjuncts, Predicates, ProgramVariables}
 use Rattle.cyc_lex.specs.declared.fault.What.TheVariants.{Variable, Locals}
 use Rattle.cyc_lex.specs.declared.fault.IllFault.TheVariants.{Parameter, Duplicate, NoLine}
-use Rattle.heap_syntax.specs.Versions.{most_spatial}
+use Rattle.heap_syntax.specs.Versions.{limits}
 use Rattle.heap_reader.specs.Trees.{Heading}
 use Rattle.heap_reader.specs.Spans.{heap_span}
 use Rattle.heap_reader.specs.Flaws.{ill_if, over_if, or_later, arity_in, heap_flaw, heaps_flaw}
@@ -28,48 +31,60 @@ use Rattle.heap_reader.specs.LineValues.{variable_value}
 use Rattle.formula_reader.specs.Values.{term_value}
 use Rattle.formula_reader.specs.Small.{IsSmallDefinition, HasDisjunct, IsSmallGoal, IsSmallProblem}
 
--- a case of a predicate has at most eight parameters
+-- a case of a predicate has few parameters and few locals
 abbrev pub IsNarrow : Scope → Type 0
 IsNarrow InGoal = Unit {0}
-IsNarrow (InCase arity) = arity ≤ 8
+IsNarrow (InCase arity locals) = (arity ≤ MOST_ARGUMENTS) × (locals ≤ MOST_LOCALS)
 
 pub term_small : (scope : Scope) → IsNarrow scope → (k : ℕ) (t : NumberedTerm) → term_flaw scope k t ≡ None
     → IsSmall term_value t
 term_small scope narrow k Nil e = tt
 term_small InGoal narrow k (Universal n primed) e = let h = at_most 65534 n (not_over _ Variable k e) in omega arith
 term_small InGoal narrow k (Existential n primed) e = let h = at_most 65534 n (not_over _ Variable k e) in omega arith
-term_small (InCase arity) narrow k (Universal n primed) e = let h = below arity n (not_ill _ Parameter k e) in
+term_small (InCase arity locals) narrow k (Universal n primed) e =
+    let most = narrow.0 in
+    let h = below arity n (not_ill _ Parameter k e) in
     omega arith
-term_small (InCase arity) narrow k (Existential n primed) e = let h = at_most 15 n (not_over _ Locals k e) in
+term_small (InCase arity locals) narrow k (Existential n primed) e =
+    let most = narrow.1 in
+    let h = below locals n (not_over _ Locals k e) in
     omega arith
 
-pub parameters_few : (k : ℕ) (ps : List (List ℕ)) → parameters_flaw k ps ≡ None → length ps ≤ 8
-parameters_few k ps e =
-    few_all (parameter_flaw ps) parameter_span 8 (λ n j s h.
-    below 8 n (not_over _ Arguments j (neither (ill_if (list_any (bytes_eq s) (take n ps)) Duplicate j)
-    (over_if (nat_le 8 n) Arguments j) h).1)) k ps e
+pub parameters_few : (most : Limits) (k : ℕ) (ps : List (List ℕ)) → parameters_flaw most k ps ≡ None
+    → length ps ≤ most.arguments
+parameters_few most k ps e =
+    few_all (parameter_flaw most ps) parameter_span most.arguments (λ n j s h.
+    below most.arguments n (not_over _ Arguments j (neither (ill_if (list_any (bytes_eq s) (take n ps)) Duplicate j)
+    (over_if (nat_le most.arguments n) Arguments j) h).1)) k ps e
 
-goal_heap_small : (most : ℕ) → most ≤ 32 → (hs : List Heading) (k : ℕ) (h : Heap)
+goal_heap_small : (most : Limits) → AreLimits most → (hs : List Heading) (k : ℕ) (h : Heap)
     → heap_flaw (term_flaw InGoal) term_span most hs k h ≡ None → IsSmallHeap term_value h
 goal_heap_small most few hs k h e = heap_small (term_flaw InGoal) term_span term_value (term_small InGoal tt)
     most few hs k h e
 
-module _ (most : ℕ) (few : most ≤ 32) (hs : List Heading) where
+module _ (most : Limits) (few : AreLimits most) (hs : List Heading) where
   pub definition_small : (n k : ℕ) (d : Definition) → definition_flaw most hs n k d ≡ None
       → (n < 4096) × IsSmallDefinition d
   definition_small n k d e =
       let p = k + 3 + parameters_span d.parameters + 1 in
       let arity = length d.parameters in
-      let a = neither (head_flaw hs n k d) (cases_flaw most hs arity p d.cases) e in
+      let a = neither (head_flaw most hs n k d) (cases_flaw most hs arity p d.cases) e in
       let b = neither (over_if (nat_le 4096 n) Predicates k)
       (or_later (ill_if (is_some (arity_in (take n hs) d.name)) Duplicate (k + 1))
-      (parameters_flaw (k + 3) d.parameters)) a.0 in
+      (parameters_flaw most (k + 3) d.parameters)) a.0 in
       let c = neither (ill_if (is_some (arity_in (take n hs) d.name)) Duplicate (k + 1))
-      (parameters_flaw (k + 3) d.parameters) b.1 in
-      let narrow = parameters_few (k + 3) d.parameters c.1 in
-      let cases = heaps_small (term_flaw (InCase arity)) term_span term_value (term_small (InCase arity) narrow)
+      (parameters_flaw most (k + 3) d.parameters) b.1 in
+      let parameters = parameters_few most (k + 3) d.parameters c.1 in
+      let arguments = few.arguments in
+      let locals = few.locals in
+      let most_cases = few.cases in
+      let scope = InCase arity most.locals in
+      let cases = heaps_small (term_flaw scope) term_span term_value (term_small scope (omega arith, omega arith))
       most few hs Cases p d.cases a.1 in
-      (below 4096 n (not_over _ Predicates k b.0), record { parameters = narrow; cases = cases.0; few = cases.1 })
+      let count = cases.1 in (
+        below 4096 n (not_over _ Predicates k b.0),
+        record { parameters = omega arith; cases = cases.0; few = omega arith },
+      )
 
   goal_small : (count k : ℕ) (g : Goal) → HasDisjunct g → goal_flaw most hs count k g ≡ None → IsSmallGoal g
   goal_small count k (Entailment h ds) some e =
@@ -90,21 +105,21 @@ variable_few k v e = let h = at_most 63 v (not_over _ ProgramVariables k e) in o
 -- a problem without a flaw is small
 pub problem_small : (p : Problem) → HasDisjunct p.goal → problem_flaw p ≡ None → IsSmallProblem p
 problem_small p some e =
-    let most = most_spatial p.version in
+    let most = limits p.version in
     let few = most_fits p.version in
     let hs = headings p.definitions in
     let at = 4 + definitions_span p.definitions in
     let goal_at = at + lines_span p.lines in
     let a = neither (definitions_flaw most hs 4 p.definitions)
-    (or_later (lines_flaw variable_flaw variable_span at p.lines)
+    (or_later (lines_flaw variable_flaw variable_span most at p.lines)
     (goal_flaw most hs (length p.lines) goal_at p.goal)) e in
-    let b = neither (lines_flaw variable_flaw variable_span at p.lines)
+    let b = neither (lines_flaw variable_flaw variable_span most at p.lines)
     (goal_flaw most hs (length p.lines) goal_at p.goal) a.1 in
     record {
       definitions = each_of (definition_flaw most hs) definition_span IsSmallDefinition
           (λ n k d h. (definition_small most few hs n k d h).1) 0 4 p.definitions a.0;
       few = few_all (definition_flaw most hs) definition_span 4096 (λ n k d h. (definition_small most few hs n k d h).0)
           4 p.definitions a.0;
-      program = lines_are_program variable_flaw variable_span variable_value variable_few at p.lines b.0;
+      program = lines_are_program variable_flaw variable_span variable_value variable_few most few at p.lines b.0;
       goal = goal_small most few hs (length p.lines) goal_at p.goal some b.1;
     }

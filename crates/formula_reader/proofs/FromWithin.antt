@@ -3,6 +3,7 @@ use Rattle.std.proofs.Common.{◌≡◌, ℕ, true, not, List, [], ◌∷◌, le
 use Rattle.std.specs.Prelude.{nat_eq, nat_lt, nat_le}
 use Rattle.std.specs.List.{list_all}
 use Rattle.std.proofs.lemmas.Bool.{and_parts, or_from, le-ltb, ne_eqb}
+use Rattle.cyc_basics.specs.declared.limits.Limits.{Limits}
 use Rattle.heap_formula.specs.declared.judgements.Judgement.{Judgement}
 use Rattle.heap_formula.specs.declared.judgements.Judgement.TheVariants.{Entail, Term as Halting}
 use Rattle.heap_formula.specs.Definitions.{Definition}
@@ -21,7 +22,7 @@ no_fault f [] e = refl
 no_fault f (x ∷ xs) e = subst (λ (o : Option DefFault). or_later o (first_fault f xs) ≡ None) (sym e.0)
     (no_fault f xs e.1)
 
-module _ (most : ℕ) (ds : List Definition) where
+module _ (most : Limits) (ds : List Definition) where
   definition_closed : (d : Definition) → IsDefinitionWithin most ds d → definition_fault ds d ≡ None
   definition_closed d w =
       no_fault (case_fault ds) d.cases (each_imply (IsCaseWithin most ds d.arity) (λ c. case_fault ds c ≡ None)
@@ -50,7 +51,7 @@ module _ (most : ℕ) (ds : List Definition) where
   within_short count j w =
       all_pass (is_short_heap most) (goal_heaps j)
       (each_imply (IsHeapWithin most ds) (λ a. is_short_heap most a ≡ true)
-      (λ a x. (and_parts (nat_le (length a.pure) 64) (nat_le (length a.spatial) most) x.short).1) (goal_heaps j)
+      (λ a x. x.short) (goal_heaps j)
       (goal_each count j w))
 
   pub within_line : (count : ℕ) (j : Judgement) → IsJudgementWithin most ds count j → has_line count j ≡ true

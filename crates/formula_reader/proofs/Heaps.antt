@@ -4,6 +4,7 @@ use Rattle.std.proofs.Common.{arith}
 use Rattle.std.specs.Prelude.{nat_le}
 use Rattle.std.proofs.lemmas.Bool.{lt-leb}
 use Rattle.std.proofs.lemmas.List.{length-map}
+use Rattle.cyc_basics.specs.declared.limits.Limits.{Limits}
 use Rattle.heap_formula.specs.declared.terms.Term.{Term}
 use Rattle.heap_formula.specs.declared.atoms.Pure.{Pure}
 use Rattle.heap_formula.specs.declared.atoms.Pure.TheVariants.{Eq, Neq}
@@ -25,7 +26,7 @@ use Rattle.heap_syntax.specs.declared.definitions.tree.TermTree.TheVariants as t
 use Rattle.proof_syntax.specs.Grammar as grammar
 use Rattle.heap_reader.specs.Spans.{pure_span, pures_span, spatial_span, heap_span}
 use Rattle.heap_reader.specs.Flaws.{Found, over_if, arity_in, use_flaw, argument_flaw, arguments_flaw, pure_flaw}
-use Rattle.heap_reader.specs.Flaws.{spatial_flaw, heap_flaw, counted_flaw, heaps_flaw}
+use Rattle.heap_reader.specs.Flaws.{spatial_flaw, heap_flaw, heap_limit, counted_flaw, heaps_flaw}
 use Rattle.proof_file.specs.Written.{term_tree, pure_tree, name_of, spatial_tree, heap_tree}
 use Rattle.formula_reader.proofs.Lists.{each_of_both, list_fits, listed_fits, none_later, none_listed}
 use Rattle.formula_reader.proofs.Names.{HaveFewParameters, heads_of, used_name_free, used_with_few, no_use_flaw}
@@ -57,7 +58,7 @@ module _ (P Q R : Term → Type 0) (g : (t : Term) → P t → Q t → R t) wher
 abbrev pub HeapFits : List Definition → Bool → SymbolicHeap → Type 0
 HeapFits ds universal a = (grammar.heap (grammar.terms universal)).fits (heap_tree ds a)
 
-module _ (limit : ℕ) (ds : List Definition) (free : HaveFreeNames ds) where
+module _ (limit : Limits) (ds : List Definition) (free : HaveFreeNames ds) where
   module _ (universal : Bool) where
     pure_fits : (x : Pure) → InPure (TermFits universal) x → (grammar.pure (grammar.terms universal)).fits (pure_tree x)
     unfolding shared.pure shared.sign
@@ -129,37 +130,39 @@ module _ (limit : ℕ) (ds : List Definition) (free : HaveFreeNames ds) where
 over_none : (n most : ℕ) (what : What) (k : ℕ) → n < most → over_if (nat_le most n) what k ≡ None
 over_none n most what k below = ap (λ b. over_if b what k) (lt-leb most n below)
 
--- over the flaw and the span of a term
-module _ (flaw : ℕ → TermTree → Found) (span : TermTree → ℕ) where
-  arguments_flawless : (ts : List Term) → length ts ≤ 8 → Each (IsFlawless flaw) ts → (k : ℕ)
-      → arguments_flaw flaw span k (map term_tree ts) ≡ None
+-- over the flaw and the span of a term; each version allows eight fields
+module _ (flaw : ℕ → TermTree → Found) (span : TermTree → ℕ) (limit : Limits) (wide : 8 ≤ limit.arguments) where
+  arguments_flawless : (ts : List Term) → length ts ≤ limit.arguments → Each (IsFlawless flaw) ts → (k : ℕ)
+      → arguments_flaw flaw span limit k (map term_tree ts) ≡ None
   arguments_flawless ts few g k =
-      none_listed (argument_flaw flaw span) span term_tree (IsFlawless flaw) 8
-      (λ n j t below good. none_later (over_if (nat_le 8 n) Arguments j) (flaw j (term_tree t))
-      (over_none n 8 Arguments j below) (good j)) 0 k ts (omega arith) g
+      none_listed (argument_flaw flaw span limit) span term_tree (IsFlawless flaw) limit.arguments
+      (λ n j t below good. none_later (over_if (nat_le limit.arguments n) Arguments j) (flaw j (term_tree t))
+      (over_none n limit.arguments Arguments j below) (good j)) 0 k ts (omega arith) g
 
-  pure_flawless : (n k : ℕ) (x : Pure) → n < 64 → InPure (IsFlawless flaw) x
-      → pure_flaw flaw span n k (pure_tree x) ≡ None
+  pure_flawless : (n k : ℕ) (x : Pure) → n < limit.pure → InPure (IsFlawless flaw) x
+      → pure_flaw flaw span limit n k (pure_tree x) ≡ None
   pure_flawless n k (Eq t u) below g =
-      none_later (over_if (nat_le 64 n) PureAtoms k) _ (over_none n 64 PureAtoms k below)
+      none_later (over_if (nat_le limit.pure n) PureAtoms k) _ (over_none n limit.pure PureAtoms k below)
       (none_later (flaw k (term_tree t)) _ (g.0 k) (g.1 (k + span (term_tree t))))
   pure_flawless n k (Neq t u) below g =
-      none_later (over_if (nat_le 64 n) PureAtoms k) _ (over_none n 64 PureAtoms k below)
+      none_later (over_if (nat_le limit.pure n) PureAtoms k) _ (over_none n limit.pure PureAtoms k below)
       (none_later (flaw k (term_tree t)) _ (g.0 k) (g.1 (k + span (term_tree t))))
 
-  module _ (limit : ℕ) (ds : List Definition) (own : HaveOwnNames ds) (few : HaveFewParameters ds) where
-    spatial_flawless : (n k : ℕ) (x : Spatial) → n < limit → IsShaped ds x → InSpatial (IsFlawless flaw) x
+  module _ (ds : List Definition) (own : HaveOwnNames ds) (few : HaveFewParameters limit ds) where
+    spatial_flawless : (n k : ℕ) (x : Spatial) → n < limit.spatial → IsShaped ds x → InSpatial (IsFlawless flaw) x
         → spatial_flaw flaw span limit (heads_of ds ds) n k (spatial_tree ds x) ≡ None
     spatial_flawless n k (Cell t ts) below s g =
-        none_later (over_if (nat_le limit n) SpatialAtoms k) _ (over_none n limit SpatialAtoms k below)
-        (none_later (flaw k (term_tree t)) _ (g.0 k) (arguments_flawless ts s.1.1 g.1 (k + span (term_tree t) + 1)))
+        let most = s.1.1 in
+        none_later (over_if (nat_le limit.spatial n) SpatialAtoms k) _ (over_none n limit.spatial SpatialAtoms k below)
+        (none_later (flaw k (term_tree t)) _ (g.0 k) (arguments_flawless ts (omega arith) g.1 (k + span
+        (term_tree t) + 1)))
     spatial_flawless n k (Pred q ts) below s g =
         let same = length-map ts term_tree in
         let known = no_use_flaw ds q (length ts) s.0 own k in
         let fine = subst (λ m. use_flaw (arity_in (heads_of ds ds) (name_of ds q)) m k ≡ None) (sym same) known in
         none_later (use_flaw (arity_in (heads_of ds ds) (name_of ds q)) (length (map term_tree ts)) k) _ fine
-        (none_later (over_if (nat_le limit n) SpatialAtoms k) _ (over_none n limit SpatialAtoms k below)
-        (arguments_flawless ts (used_with_few ds q (length ts) s.0 few) g (k + 2)))
+        (none_later (over_if (nat_le limit.spatial n) SpatialAtoms k) _ (over_none n limit.spatial SpatialAtoms k below)
+        (arguments_flawless ts (used_with_few ds q (length ts) s.0 limit few) g (k + 2)))
 
     pub heap_flawless : (a : SymbolicHeap) → IsHeapWithin limit ds a → InHeap (IsFlawless flaw) a → (k : ℕ)
         → heap_flaw flaw span limit (heads_of ds ds) k (heap_tree ds a) ≡ None
@@ -169,22 +172,22 @@ module _ (flaw : ℕ → TermTree → Found) (span : TermTree → ℕ) where
         let spatials = s.spatials in
         let shaped = each_of_both (IsShaped ds) (InSpatial (IsFlawless flaw))
         (λ x. IsShaped ds x × InSpatial (IsFlawless flaw) x) (λ x p q. (p, q)) a.spatial s.shaped g.1 in
-        let first = none_listed (pure_flaw flaw span) (pure_span span) pure_tree (InPure (IsFlawless flaw))
-        64 pure_flawless 0 k a.pure (omega arith) g.0 in
+        let first = none_listed (pure_flaw flaw span limit) (pure_span span) pure_tree (InPure (IsFlawless flaw))
+        limit.pure pure_flawless 0 k a.pure (omega arith) g.0 in
         let second = none_listed (spatial_flaw flaw span limit (heads_of ds ds)) (spatial_span span) (spatial_tree ds)
-        (λ x. IsShaped ds x × InSpatial (IsFlawless flaw) x) limit
+        (λ x. IsShaped ds x × InSpatial (IsFlawless flaw) x) limit.spatial
         (λ n j x below b. spatial_flawless n j x below b.0 b.1) 0 (k + pures_span span (map pure_tree a.pure))
         a.spatial (omega arith) shaped in
         none_later _ _ first second
 
-    -- at most sixteen disjuncts or cases
-    pub heaps_flawless : (what : What) (heaps : List SymbolicHeap) → length heaps ≤ 16
+    -- as many disjuncts or cases as there may be
+    pub heaps_flawless : (what : What) (heaps : List SymbolicHeap) → length heaps ≤ heap_limit limit what
         → Each (IsHeapWithin limit ds) heaps → Each (InHeap (IsFlawless flaw)) heaps → (k : ℕ)
         → heaps_flaw flaw span limit (heads_of ds ds) what k (map (heap_tree ds) heaps) ≡ None
     heaps_flawless what heaps most w g k =
         let both = each_of_both (IsHeapWithin limit ds) (InHeap (IsFlawless flaw))
         (λ a. IsHeapWithin limit ds a × InHeap (IsFlawless flaw) a) (λ a p q. (p, q)) heaps w g in
         none_listed (counted_flaw flaw span limit (heads_of ds ds) what) (heap_span span) (heap_tree ds)
-        (λ a. IsHeapWithin limit ds a × InHeap (IsFlawless flaw) a) 16
-        (λ n j a below b. none_later (over_if (nat_le 16 n) what j) _ (over_none n 16 what j below)
-        (heap_flawless a b.0 b.1 j)) 0 k heaps (omega arith) both
+        (λ a. IsHeapWithin limit ds a × InHeap (IsFlawless flaw) a) (heap_limit limit what) (λ n j a below b.
+        none_later (over_if (nat_le (heap_limit limit what) n) what j) _
+        (over_none n (heap_limit limit what) what j below) (heap_flawless a b.0 b.1 j)) 0 k heaps (omega arith) both

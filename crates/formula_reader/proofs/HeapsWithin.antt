@@ -2,6 +2,7 @@
 use Rattle.std.proofs.Common.{◌≡◌, ℕ, ◌+◌, ◌<◌, ◌≤◌, Bool, true, false, List, [], ◌∷◌, length, map, None, arith}
 use Rattle.std.specs.Prelude.{if◌then◌else◌, nat_le}
 use Rattle.std.proofs.lemmas.List.{length-map}
+use Rattle.cyc_basics.specs.declared.limits.Limits.{Limits}
 use Rattle.heap_formula.specs.declared.terms.Term.{Term}
 use Rattle.heap_formula.specs.declared.atoms.Pure.{Pure}
 use Rattle.heap_formula.specs.declared.atoms.Pure.TheVariants.{Eq, Neq}
@@ -30,6 +31,7 @@ use Rattle.heap_reader.specs.Flaws.{Found, over_if, or_later, listed_flaw, argum
 use Rattle.heap_reader.specs.Flaws.{arity_in, use_flaw, spatial_flaw, heap_flaw}
 use Rattle.heap_reader.specs.Small.{IsSmallSpatial, IsSmallHeap}
 use Rattle.heap_reader.specs.Values.{pure_value, spatial_value, heap_value}
+use Rattle.heap_reader.proofs.Fitting.{HasFewAtoms}
 use Rattle.heap_reader.proofs.NoFlaw.{neither, each_of as each_flawless}
 use Rattle.problem_syntax.specs.Numbering as numbers
 use Rattle.formula_reader.specs.Values.{term_value}
@@ -40,11 +42,11 @@ use Rattle.heap_reader.proofs.Members.{behind_fit}
 -- ---- what holds of each term without a flaw holds of the terms of a heap without one
 
 module _ {T : Type 0} (flaw : ℕ → T → Found) (span : T → ℕ) (value : T → Term) (Q : Term → Type 0)
-    (one : (k : ℕ) (t : T) → flaw k t ≡ None → Q (value t)) where
-  arguments_keep : (k : ℕ) (ts : List T) → arguments_flaw flaw span k ts ≡ None → Each Q (map value ts)
+    (one : (k : ℕ) (t : T) → flaw k t ≡ None → Q (value t)) (limit : Limits) where
+  arguments_keep : (k : ℕ) (ts : List T) → arguments_flaw flaw span limit k ts ≡ None → Each Q (map value ts)
   arguments_keep k ts e =
-      each_mapped Q value ts (each_flawless (argument_flaw flaw span) span (λ t. Q (value t))
-      (λ n j t h. one j t (neither (over_if (nat_le 8 n) Arguments j) (flaw j t) h).1) 0 k ts e)
+      each_mapped Q value ts (each_flawless (argument_flaw flaw span limit) span (λ t. Q (value t))
+      (λ n j t h. one j t (neither (over_if (nat_le limit.arguments n) Arguments j) (flaw j t) h).1) 0 k ts e)
 
   pure_keeps : (x : PureTree T) → Q (value x.left) → Q (value x.right) → InPure Q (pure_value value x)
   pure_keeps x left right = by_sign x.is_equation
@@ -54,34 +56,36 @@ module _ {T : Type 0} (flaw : ℕ → T → Found) (span : T → ℕ) (value : T
       by_sign true = (left, right)
       by_sign false = (left, right)
 
-  pures_keep : (k : ℕ) (xs : List (PureTree T)) → listed_flaw (pure_flaw flaw span) (pure_span span) 0 k xs ≡ None
+  pures_keep : (k : ℕ) (xs : List (PureTree T)) → listed_flaw (pure_flaw flaw span limit) (pure_span span) 0 k xs ≡ None
       → Each (InPure Q) (map (pure_value value) xs)
   pures_keep k xs e =
       each_mapped (InPure Q) (pure_value value) xs
-      (each_flawless (pure_flaw flaw span) (pure_span span) (λ x. InPure Q (pure_value value x)) (λ n j x h.
+      (each_flawless (pure_flaw flaw span limit) (pure_span span) (λ x. InPure Q (pure_value value x)) (λ n j x h.
       let sides = neither (flaw j x.left) (flaw (j + span x.left) x.right)
-      (neither (over_if (nat_le 64 n) PureAtoms j) (or_later (flaw j x.left) (flaw (j + span x.left) x.right)) h).1
+      (neither (over_if (nat_le limit.pure n) PureAtoms j) (or_later (flaw j x.left) (flaw
+      (j + span x.left) x.right)) h).1
       in
       pure_keeps x (one j x.left sides.0) (one (j + span x.left) x.right sides.1)) 0 k xs e)
 
-  module _ (limit : ℕ) (hs : List Heading) where
+  module _ (hs : List Heading) where
     spatial_keeps : (n k : ℕ) (x : Spatial T) → spatial_flaw flaw span limit hs n k x ≡ None
         → InSpatial Q (spatial_value value hs x)
     spatial_keeps n k (Cell t ts) e =
-        let a = neither (over_if (nat_le limit n) SpatialAtoms k)
-        (or_later (flaw k t) (arguments_flaw flaw span (k + span t + 1) ts)) e in
-        let b = neither (flaw k t) (arguments_flaw flaw span (k + span t + 1) ts) a.1 in
+        let a = neither (over_if (nat_le limit.spatial n) SpatialAtoms k)
+        (or_later (flaw k t) (arguments_flaw flaw span limit (k + span t + 1) ts)) e in
+        let b = neither (flaw k t) (arguments_flaw flaw span limit (k + span t + 1) ts) a.1 in
         (one k t b.0, arguments_keep (k + span t + 1) ts b.1)
     spatial_keeps n k (Predicate name ts) e =
         let a = neither (use_flaw (arity_in hs name) (length ts) k)
-        (or_later (over_if (nat_le limit n) SpatialAtoms k) (arguments_flaw flaw span (k + 2) ts)) e in
-        let b = neither (over_if (nat_le limit n) SpatialAtoms k) (arguments_flaw flaw span (k + 2) ts) a.1 in
+        (or_later (over_if (nat_le limit.spatial n) SpatialAtoms k) (arguments_flaw flaw span limit (k + 2) ts)) e in
+        let b = neither (over_if (nat_le limit.spatial n) SpatialAtoms k) (arguments_flaw flaw span limit
+        (k + 2) ts) a.1 in
         arguments_keep (k + 2) ts b.1
 
     pub heap_keeps : (k : ℕ) (h : Heap T) → heap_flaw flaw span limit hs k h ≡ None → InHeap Q (heap_value value hs h)
     heap_keeps k h e =
         let p = k + pures_span span h.pure in
-        let a = neither (listed_flaw (pure_flaw flaw span) (pure_span span) 0 k h.pure)
+        let a = neither (listed_flaw (pure_flaw flaw span limit) (pure_span span) 0 k h.pure)
         (listed_flaw (spatial_flaw flaw span limit hs) (spatial_span span) 0 p h.spatial) e in (
           pures_keep k h.pure a.0,
           each_mapped (InSpatial Q) (spatial_value value hs) h.spatial
@@ -168,7 +172,7 @@ module _ (b : Bool) where
 
 -- ---- a heap of a text without a flaw is within the limits
 
-module _ (limit : ℕ) (hs : List Heading) (scope : numbers.Scope) where
+module _ (limit : Limits) (hs : List Heading) (scope : numbers.Scope) where
   fields_kept : (x : named.Spatial) → HasField x → IsSmallSpatial term_value (numbers.spatial scope x)
       → HasFields (spatial_value term_value hs (numbers.spatial scope x))
   fields_kept (Cell t ts) some small =
@@ -185,7 +189,7 @@ module _ (limit : ℕ) (hs : List Heading) (scope : numbers.Scope) where
   all_fields_kept (x ∷ xs) some small = (fields_kept x some.0 small.0, all_fields_kept xs some.1 small.1)
 
   pub heap_within : (ds : List Definition) (b : Bool) (h : named.Heap) → (heap b).fits h
-      → IsSmallHeap term_value (numbers.heap scope h) → length (numbers.heap scope h).spatial ≤ limit
+      → IsSmallHeap term_value (numbers.heap scope h) → HasFewAtoms limit (numbers.heap scope h)
       → InHeap IsLow (heap_value term_value hs (numbers.heap scope h))
       → case_fault ds (heap_value term_value hs (numbers.heap scope h)) ≡ None
       → IsHeapWithin limit ds (heap_value term_value hs (numbers.heap scope h))
@@ -194,7 +198,8 @@ module _ (limit : ℕ) (hs : List Heading) (scope : numbers.Scope) where
       let a = heap_value term_value hs tree in
       let m = length-map tree.pure (pure_value term_value) in
       let n = length-map tree.spatial (spatial_value term_value hs) in
-      let few_pure = small.pure_few in
+      let few_pures = short.0 in
+      let few_spatials = short.1 in
       within limit ds a (record {
         pures = omega arith;
         spatials = omega arith;

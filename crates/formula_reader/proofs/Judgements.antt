@@ -2,6 +2,7 @@
 use Rattle.std.proofs.Common.{◌≡◌, ℕ, ◌+◌, ◌≤◌, true, false, List, None, refl, arith}
 use Rattle.std.specs.Prelude.{◌||◌, nat_eq, nat_lt, nat_le}
 use Rattle.std.proofs.lemmas.Bool.{and_from, le-leb, lt-ltb, le-ltb, ne_eqb}
+use Rattle.cyc_basics.specs.declared.limits.Limits.{Limits}
 use Rattle.heap_formula.specs.declared.judgements.Judgement.{Judgement}
 use Rattle.heap_formula.specs.declared.judgements.Judgement.TheVariants.{Entail, Term as Runs}
 use Rattle.heap_formula.specs.Closedness.{InHeap}
@@ -30,21 +31,22 @@ use Rattle.heap_formula.proofs.AllMembers.{each_imply}
 -- ---- heaps outside definitions
 
 -- no term of the heap has a flaw
-low_flawless : (limit : ℕ) (ds : List Definition) (a : SymbolicHeap) → IsHeapWithin limit ds a
+low_flawless : (limit : Limits) (ds : List Definition) (a : SymbolicHeap) → IsHeapWithin limit ds a
     → InHeap (IsFlawless (term_flaw InNode)) a
 low_flawless limit ds a w =
     let low = (small limit ds a w).low in
     in_heap_both IsLow IsLow (IsFlawless (term_flaw InNode)) (λ t b _. term_flawless t b) a low low
 
-pub node_heap_flawless : (limit : ℕ) (ds : List Definition) → HaveOwnNames ds → HaveFewParameters ds
+pub node_heap_flawless : (limit : Limits) (ds : List Definition) → 8 ≤ limit.arguments → HaveOwnNames ds
+    → HaveFewParameters limit ds
     → (a : SymbolicHeap) → IsHeapWithin limit ds a → (k : ℕ)
     → heap_flaw (term_flaw InNode) term_span limit (heads_of ds ds) k (heap_tree ds a) ≡ None
-node_heap_flawless limit ds own few a w = heap_flawless (term_flaw InNode) term_span limit ds own few a w
+node_heap_flawless limit ds wide own few a w = heap_flawless (term_flaw InNode) term_span limit wide ds own few a w
     (low_flawless limit ds a w)
 
 -- ---- judgements
 
-module _ (limit : ℕ) (ds : List Definition) (count : ℕ) where
+module _ (limit : Limits) (ds : List Definition) (count : ℕ) where
   pub judgement_fits : HaveFreeNames ds → count ≤ 4096 → (j : Judgement) → IsJudgementWithin limit ds count j
       → grammar.judgement.fits (judgement_tree ds j)
   unfolding grammar.judgement grammar.entailment grammar.state grammar.disjuncts
@@ -67,15 +69,16 @@ module _ (limit : ℕ) (ds : List Definition) (count : ℕ) where
       let positive : nat_eq i 0 ≡ false = ne_eqb i 0 (λ e. omega (arith, e)) in
       rw (positive, le-ltb count i l.1) refl
 
-  pub judgement_flawless : HaveOwnNames ds → HaveFewParameters ds → (j : Judgement) → IsJudgementWithin limit ds count j
+  pub judgement_flawless : 8 ≤ limit.arguments → HaveOwnNames ds → HaveFewParameters limit ds → (j : Judgement)
+      → IsJudgementWithin limit ds count j
       → (k : ℕ) → judgement_flaw limit (heads_of ds ds) count k (judgement_tree ds j) ≡ None
-  judgement_flawless own few (Entail a bs) w k =
-      none_later _ _ (node_heap_flawless limit ds own few a w.heaps.0 k)
-      (heaps_flawless (term_flaw InNode) term_span limit ds own few Disjuncts bs w.form.1 w.heaps.1
+  judgement_flawless wide own few (Entail a bs) w k =
+      none_later _ _ (node_heap_flawless limit ds wide own few a w.heaps.0 k)
+      (heaps_flawless (term_flaw InNode) term_span limit wide ds own few Disjuncts bs w.form.1 w.heaps.1
       (each_imply (IsHeapWithin limit ds) (InHeap (IsFlawless (term_flaw InNode))) (low_flawless limit ds)
       bs w.heaps.1) (k + heap_span term_span (heap_tree ds a)))
-  judgement_flawless own few (Runs i a) w k =
-      none_later _ _ (line_there i (k + 1) w.form) (node_heap_flawless limit ds own few a w.heaps.0 (k + 3))
+  judgement_flawless wide own few (Runs i a) w k =
+      none_later _ _ (line_there i (k + 1) w.form) (node_heap_flawless limit ds wide own few a w.heaps.0 (k + 3))
 
   pub judgement_at_line : (j : Judgement) → IsJudgementWithin limit ds count j → is_at_line count j ≡ true
   judgement_at_line (Entail a bs) w = refl

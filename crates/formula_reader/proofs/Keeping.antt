@@ -4,11 +4,12 @@ use Rattle.std.proofs.Common.{Option, Some, None, refl, sym, ap, ◌∙◌, subs
 use Rattle.std.specs.Prelude.{nat_eq, nat_lt, nat_le, slice_get}
 use Rattle.std.specs.List.{list_all}
 use Rattle.std.specs.Str.{bytes_eq}
-use Rattle.std.proofs.lemmas.Bool.{le-leb}
+use Rattle.std.proofs.lemmas.Bool.{and_from, le-leb}
 use Rattle.std.proofs.lemmas.List.{length-map}
 use Rattle.cyc_lex.specs.declared.fault.What.{What}
 use Rattle.cyc_lex.specs.declared.fault.What.TheVariants.{Cases, Disjuncts, Spatial as SpatialAtoms}
 use Rattle.cyc_lex.specs.declared.fault.IllFault.TheVariants.{NoLine, Arity}
+use Rattle.cyc_basics.specs.declared.limits.Limits.{Limits}
 use Rattle.heap_formula.specs.Definitions.{Definition as DefinitionValue}
 use Rattle.heap_formula.specs.Words.{Each}
 use Rattle.heap_formula.specs.Judgements.{antecedent}
@@ -21,15 +22,15 @@ use Rattle.heap_syntax.specs.declared.tree.PureTree.{PureTree}
 use Rattle.heap_syntax.specs.Trees.{Cell, Predicate, pure_of}
 use Rattle.problem_syntax.specs.Trees as named
 use Rattle.problem_syntax.specs.Trees.{Named, Nil, Plain, Primed}
-use Rattle.heap_syntax.specs.Versions.{most_spatial}
+use Rattle.heap_syntax.specs.Versions.{limits}
 use Rattle.heap_reader.specs.Trees.{Heading}
 use Rattle.heap_reader.specs.Spans.{heap_span, pure_span, pures_span, spatial_span}
 use Rattle.heap_reader.specs.Flaws.{ill_if, over_if, or_later, listed_flaw, arguments_flaw, pure_flaw, spatial_flaw}
 use Rattle.heap_reader.specs.Flaws.{arity_in, use_flaw, heap_flaw, counted_flaw, heaps_flaw}
+use Rattle.heap_reader.specs.Flaws.{heap_limit}
 use Rattle.heap_reader.specs.LineFlaws.{lines_flaw}
 use Rattle.heap_reader.specs.Values.{place_of, pure_value, spatial_value, heap_value}
 use Rattle.heap_reader.specs.LineValues.{line_value, variable_value, program_value}
-use Rattle.heap_reader.proofs.Fitting.{heap_few, heaps_few}
 use Rattle.heap_reader.proofs.NoFlaw.{neither, not_ill, each_of}
 use Rattle.problem_syntax.specs.Names.{Name}
 use Rattle.problem_syntax.specs.Numbering as numbers
@@ -46,6 +47,7 @@ use Rattle.formula_reader.specs.Small.{IsSmallProblem}
 use Rattle.heap_reader.specs.Small.{is_short_heap}
 use Rattle.formula_reader.specs.Problems.{IsOfText, goal_heaps, goal_fault, has_line}
 use Rattle.formula_reader.proofs.Fitting.{problem_small}
+use Rattle.heap_reader.proofs.Fitting.{HasFewAtoms, heap_few, heaps_few}
 use Rattle.formula_reader.proofs.SpanLaws.{text_some}
 use Rattle.std.proofs.lemmas.Option.{same_Some}
 
@@ -105,7 +107,7 @@ none_first : {X Y : Type 0} (f : Y → Option DefFault) (value : X → Y) (xs : 
 none_first f value [] e = refl
 none_first f value (x ∷ xs) e = (λ i. then_fault (e.0 i) (first_fault f (map value xs))) ∙ none_first f value xs e.1
 
-module _ (most : ℕ) (ds : List Definition) (scope : Scope) where
+module _ (most : Limits) (ds : List Definition) (scope : Scope) where
   values : List DefinitionValue
   values = map (definition_value (headings ds)) ds
 
@@ -115,7 +117,8 @@ module _ (most : ℕ) (ds : List Definition) (scope : Scope) where
   atom_right n k (Cell t ts) e = refl
   atom_right n k (Predicate name ts) e =
       let a = neither (use_flaw (arity_in (headings ds) name) (length ts) k)
-      (or_later (over_if (nat_le most n) SpatialAtoms k) (arguments_flaw (term_flaw scope) term_span (k + 2) ts)) e
+      (or_later (over_if (nat_le most.spatial n) SpatialAtoms k) (arguments_flaw (term_flaw scope) term_span most
+      (k + 2) ts)) e
       in
       subst (λ (m : ℕ). arity_fault (slice_get values (place_of (headings ds) name)) m ≡ None)
       (sym (length-map ts term_value)) (use_right (headings ds) ds name (length ts) k a.0)
@@ -124,7 +127,7 @@ module _ (most : ℕ) (ds : List Definition) (scope : Scope) where
       → case_fault values (heap_value term_value (headings ds) h) ≡ None
   heap_right k h e =
       let p = k + pures_span term_span h.pure in
-      let a = neither (listed_flaw (pure_flaw (term_flaw scope) term_span) (pure_span term_span) 0 k h.pure)
+      let a = neither (listed_flaw (pure_flaw (term_flaw scope) term_span most) (pure_span term_span) 0 k h.pure)
       (listed_flaw (spatial_flaw (term_flaw scope) term_span most (headings ds)) (spatial_span term_span)
       0 p h.spatial) e in
       none_first (use_fault values) (spatial_value term_value (headings ds)) h.spatial
@@ -138,18 +141,18 @@ module _ (most : ℕ) (ds : List Definition) (scope : Scope) where
       none_first (case_fault values) (heap_value term_value (headings ds)) hs
       (each_of (counted_flaw (term_flaw scope) term_span most (headings ds) what) (heap_span term_span)
       (λ h. case_fault values (heap_value term_value (headings ds) h) ≡ None)
-      (λ n j h g. heap_right j h (neither (over_if (nat_le 16 n) what j)
+      (λ n j h g. heap_right j h (neither (over_if (nat_le (heap_limit most what) n) what j)
       (heap_flaw (term_flaw scope) term_span most (headings ds) j h) g).1) 0 k hs e)
 
-module _ (most : ℕ) (ds : List Definition) where
+module _ (most : Limits) (ds : List Definition) where
   definition_right : (n k : ℕ) (d : Definition) → definition_flaw most (headings ds) n k d ≡ None
       → definition_fault (map (definition_value (headings ds)) ds) (definition_value (headings ds) d) ≡ None
   unfolding values
   definition_right n k d e =
       let p = k + 3 + parameters_span d.parameters + 1 in
       let arity = length d.parameters in
-      let a = neither (head_flaw (headings ds) n k d) (cases_flaw most (headings ds) arity p d.cases) e in
-      heaps_right most ds (InCase arity) Cases p d.cases a.1
+      let a = neither (head_flaw most (headings ds) n k d) (cases_flaw most (headings ds) arity p d.cases) e in
+      heaps_right most ds (InCase arity most.locals) Cases p d.cases a.1
 
   goal_right : (count k : ℕ) (g : Goal) → goal_flaw most (headings ds) count k g ≡ None
       → goal_fault (map (definition_value (headings ds)) ds) (goal_value (headings ds) g) ≡ None
@@ -166,7 +169,7 @@ module _ (most : ℕ) (ds : List Definition) where
 
 -- ---- the line of the goal
 
-line_right : (most : ℕ) (hs gs : List Heading) (count k : ℕ) (g : Goal) → goal_flaw most hs count k g ≡ None
+line_right : (most : Limits) (hs gs : List Heading) (count k : ℕ) (g : Goal) → goal_flaw most hs count k g ≡ None
     → has_line count (goal_value gs g) ≡ true
 line_right most hs gs count k (Entailment h ds) e = refl
 line_right most hs gs count k (From n h) e =
@@ -176,12 +179,19 @@ line_right most hs gs count k (From n h) e =
 
 -- ---- the goal's heaps are short
 
-module _ (most : ℕ) (hs : List Heading) where
-  short : (h : Heap) → length h.spatial ≤ most → is_short_heap most (heap_value term_value hs h) ≡ true
-  short h few = le-leb (length (map (spatial_value term_value hs) h.spatial)) most
-      (let n = length-map h.spatial (spatial_value term_value hs) in omega arith)
+module _ (most : Limits) (hs : List Heading) where
+  short : (h : Heap) → HasFewAtoms most h → is_short_heap most (heap_value term_value hs h) ≡ true
+  short h few =
+      let pures = map (pure_value term_value) h.pure in
+      let atoms = map (spatial_value term_value hs) h.spatial in
+      let m = length-map h.pure (pure_value term_value) in
+      let n = length-map h.spatial (spatial_value term_value hs) in
+      let few_pures = few.0 in
+      let few_atoms = few.1 in
+      and_from (nat_le (length pures) most.pure) (nat_le (length atoms) most.spatial)
+      (le-leb (length pures) most.pure (omega arith)) (le-leb (length atoms) most.spatial (omega arith))
 
-  all_short : (xs : List Heap) → Each (λ (h : Heap). length h.spatial ≤ most) xs
+  all_short : (xs : List Heap) → Each (HasFewAtoms most) xs
       → list_all (is_short_heap most) (map (heap_value term_value hs) xs) ≡ true
   all_short [] e = refl
   all_short (x ∷ xs) e = λ i. short x e.0 i && all_short xs e.1 i
@@ -250,18 +260,18 @@ module _ (us : List Name) where
 -- ---- problems
 
 module _ (p : Problem) (text : IsOfText p) (right : problem_flaw p ≡ None) where
-  parts : (definitions_flaw (most_spatial p.version) (headings p.definitions) 4 p.definitions ≡ None)
-      × (goal_flaw (most_spatial p.version) (headings p.definitions) (length p.lines)
+  parts : (definitions_flaw (limits p.version) (headings p.definitions) 4 p.definitions ≡ None)
+      × (goal_flaw (limits p.version) (headings p.definitions) (length p.lines)
       (4 + definitions_span p.definitions + lines_span p.lines) p.goal ≡ None)
   parts =
-      let most = most_spatial p.version in
+      let most = limits p.version in
       let hs = headings p.definitions in
       let at = 4 + definitions_span p.definitions in
       let goal_at = at + lines_span p.lines in
       let a = neither (definitions_flaw most hs 4 p.definitions)
-      (or_later (lines_flaw variable_flaw variable_span at p.lines)
+      (or_later (lines_flaw variable_flaw variable_span most at p.lines)
       (goal_flaw most hs (length p.lines) goal_at p.goal)) right in
-      let b = neither (lines_flaw variable_flaw variable_span at p.lines)
+      let b = neither (lines_flaw variable_flaw variable_span most at p.lines)
       (goal_flaw most hs (length p.lines) goal_at p.goal) a.1 in
       (a.0, b.1)
 
@@ -270,13 +280,13 @@ module _ (p : Problem) (text : IsOfText p) (right : problem_flaw p ≡ None) whe
       let ds = p.definitions in
       let vs = map (definition_value (headings ds)) ds in
       none_first (definition_fault vs) (definition_value (headings ds)) ds
-      (each_of (definition_flaw (most_spatial p.version) (headings ds)) definition_span
+      (each_of (definition_flaw (limits p.version) (headings ds)) definition_span
       (λ d. definition_fault vs (definition_value (headings ds) d) ≡ None)
-      (definition_right (most_spatial p.version) ds) 0 4 ds parts.0)
+      (definition_right (limits p.version) ds) 0 4 ds parts.0)
 
   pub is_known : goal_fault (map (definition_value (headings p.definitions)) p.definitions)
       (goal_value (headings p.definitions) p.goal) ≡ None
-  is_known = goal_right (most_spatial p.version) p.definitions (length p.lines)
+  is_known = goal_right (limits p.version) p.definitions (length p.lines)
       (4 + definitions_span p.definitions + lines_span p.lines) p.goal parts.1
 
   pub has_its_line : has_line (length (program_value p.lines)) (goal_value (headings p.definitions) p.goal) ≡ true
@@ -285,12 +295,12 @@ module _ (p : Problem) (text : IsOfText p) (right : problem_flaw p ≡ None) whe
       let same : length (program_value p.lines) ≡ length p.lines = length-map lines _
       ∙ length-map p.lines (line_value variable_value) in
       subst (λ (n : ℕ). has_line n (goal_value (headings p.definitions) p.goal) ≡ true) (sym same)
-      (line_right (most_spatial p.version) (headings p.definitions) (headings p.definitions) (length p.lines)
+      (line_right (limits p.version) (headings p.definitions) (headings p.definitions) (length p.lines)
       (4 + definitions_span p.definitions + lines_span p.lines) p.goal parts.1)
 
-  pub is_short : list_all (is_short_heap (most_spatial p.version))
+  pub is_short : list_all (is_short_heap (limits p.version))
       (goal_heaps (goal_value (headings p.definitions) p.goal)) ≡ true
-  is_short = goal_short (most_spatial p.version) (headings p.definitions) (length p.lines)
+  is_short = goal_short (limits p.version) (headings p.definitions) (length p.lines)
       (4 + definitions_span p.definitions + lines_span p.lines) p.goal parts.1
 
   pub has_universal_antecedent : is_universal_heap (antecedent (goal_value (headings p.definitions) p.goal)) ≡ true

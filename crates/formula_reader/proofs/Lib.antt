@@ -25,3 +25,4 @@ pub mod NodesFlawless
 pub mod ProgramLines
 pub mod DefinitionTrees
 pub mod FileTrees
+pub mod Raised

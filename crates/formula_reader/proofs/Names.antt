@@ -5,6 +5,7 @@ use Rattle.std.specs.Prelude.{nat_eq, not, if◌then◌else◌, slice_get}
 use Rattle.std.specs.Str.{bytes_eq}
 use Rattle.std.proofs.lemmas.Bool.{eqb-true, eq-eqb}
 use Rattle.std.proofs.lemmas.Slice.Eq.{bytes_eq-Decides}
+use Rattle.cyc_basics.specs.declared.limits.Limits.{Limits}
 use Rattle.heap_formula.specs.Definitions.{Definition}
 use Rattle.heap_formula.specs.Words.{Each}
 use Rattle.pred_defs.specs.Faults.{arity_fault}
@@ -20,12 +21,12 @@ use Rattle.proof_file.specs.Flaws.{headings}
 use Rattle.proof_file.specs.Written.{name_in, name_of, definition_tree}
 use Rattle.heap_formula.proofs.AllMembers.{each_at}
 
--- each definition has at most eight parameters
-abbrev pub HaveFewParameters : List Definition → Type 0
-HaveFewParameters ds = (q : ℕ) (d : Definition) → slice_get ds q ≡ Some d → d.arity ≤ 8
+-- no definition has more parameters than it may have
+abbrev pub HaveFewParameters : Limits → List Definition → Type 0
+HaveFewParameters limit ds = (q : ℕ) (d : Definition) → slice_get ds q ≡ Some d → d.arity ≤ limit.arguments
 
-pub few_parameters : (limit : ℕ) (ds xs : List Definition) → Each (IsDefinitionWithin limit ds) xs
-    → HaveFewParameters xs
+pub few_parameters : (limit : Limits) (ds xs : List Definition) → Each (IsDefinitionWithin limit ds) xs
+    → HaveFewParameters limit xs
 few_parameters limit ds xs e q d at = (each_at (IsDefinitionWithin limit ds) xs q d at e).arity
 
 -- the names and arities of some definitions' trees
@@ -70,8 +71,8 @@ module _ (ds : List Definition) (q n : ℕ) (known : arity_fault (slice_get ds q
       let found_use = used (slice_get ds q) n known in
       ap (λ o. is_free_name reserved (name_in o)) found_use.1 ∙ free q found_use.0 found_use.1
 
-  pub used_with_few : HaveFewParameters ds → n ≤ 8
-  used_with_few few =
+  pub used_with_few : (limit : Limits) → HaveFewParameters limit ds → n ≤ limit.arguments
+  used_with_few limit few =
       let found_use = used (slice_get ds q) n known in
       let most = few q found_use.0 found_use.1 in
       let same = found_use.2 in

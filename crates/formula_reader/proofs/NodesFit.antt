@@ -1,6 +1,7 @@
 -- The nodes' trees fit the grammar, and their values are as it lets them through.
 use Rattle.std.proofs.Common.{◌≡◌, ℕ, ◌<◌, ◌≤◌, true, List, [], ◌∷◌, map, length, arith}
 use Rattle.std.proofs.lemmas.Bool.{and_from}
+use Rattle.cyc_basics.specs.declared.limits.Limits.{Limits}
 use Rattle.heap_formula.specs.Definitions.{Definition}
 use Rattle.heap_formula.specs.Judgements.{antecedent}
 use Rattle.heap_formula.specs.Words.{Each}
@@ -18,7 +19,7 @@ use Rattle.formula_reader.proofs.Reasons.{reason_fits, premises_fit, reason_read
 use Rattle.heap_formula.proofs.AllMembers.{each_imply}
 use Rattle.rule_table.specs.Tests.{is_universal_heap}
 
-module _ (limit : ℕ) (ds : List Definition) (count : ℕ) where
+module _ (limit : Limits) (ds : List Definition) (count : ℕ) where
   node_fits : HaveFreeNames ds → count ≤ 4096 → (n : FileNode) → IsNodeWithin limit ds count n
       → grammar.node.fits (node_tree ds n)
   unfolding grammar.node

@@ -2,6 +2,7 @@
 use Rattle.std.proofs.Common.{◌≡◌, ℕ, Bool, true, List, length, Option, None}
 use Rattle.std.proofs.Props.{props}
 use Rattle.std.specs.Coded.{Coded-set, coded_bool, coded_ℕ, ×_prop, Unit-prop, le_prop}
+use Rattle.cyc_basics.specs.declared.limits.Limits.{Limits}
 use Rattle.heap_formula.specs.declared.terms.Term.{Term}
 use Rattle.heap_formula.specs.declared.terms.Term.TheVariants.{Nil, Univ, Exist}
 use Rattle.heap_formula.specs.declared.atoms.Pure.{Pure}
@@ -67,17 +68,17 @@ command_prop (commands.IfAny j) = Unit-prop
 command_prop (commands.Goto j) = Unit-prop
 command_prop commands.Stop = Unit-prop
 
-of_version_prop : (version : Version) (c : Command) → IsProp (IsCommandOf version c)
-of_version_prop version (commands.Assign x t) = Unit-prop
-of_version_prop version (commands.Load x t k) = Unit-prop
-of_version_prop version (commands.Store t k u) = Unit-prop
-of_version_prop version (commands.New x k) = Unit-prop
-of_version_prop version (commands.Free t) = Unit-prop
-of_version_prop version (commands.IfEq t u j) = Unit-prop
-of_version_prop version (commands.IfNeq t u j) = Unit-prop
-of_version_prop version (commands.IfAny j) = true_prop (has_free_branches version)
-of_version_prop version (commands.Goto j) = Unit-prop
-of_version_prop version commands.Stop = Unit-prop
+of_version_prop : (version : Version) (limit : Limits) (c : Command) → IsProp (IsCommandOf version limit c)
+of_version_prop version limit (commands.Assign x t) = Unit-prop
+of_version_prop version limit (commands.Load x t k) = le_prop
+of_version_prop version limit (commands.Store t k u) = le_prop
+of_version_prop version limit (commands.New x k) = le_prop
+of_version_prop version limit (commands.Free t) = Unit-prop
+of_version_prop version limit (commands.IfEq t u j) = Unit-prop
+of_version_prop version limit (commands.IfNeq t u j) = Unit-prop
+of_version_prop version limit (commands.IfAny j) = true_prop (has_free_branches version)
+of_version_prop version limit (commands.Goto j) = Unit-prop
+of_version_prop version limit commands.Stop = Unit-prop
 
 stands_prop : (n i : ℕ) (c : Command) → IsProp (MayStandAt n i c)
 stands_prop n i (commands.Assign x t) = le_prop
@@ -103,7 +104,7 @@ form_prop : (count : ℕ) (j : Judgement) → IsProp (IsFormWithin count j)
 form_prop count (Entail a bs) = ×_prop le_prop le_prop
 form_prop count (Runs i a) = ×_prop le_prop le_prop
 
-module _ (limit : ℕ) (ds : List Definition) where
+module _ (limit : Limits) (ds : List Definition) where
   heap_prop : (a : SymbolicHeap) → IsProp (IsHeapWithin limit ds a)
   heap_prop a p q = λ i. record {
     short = true_prop (is_short limit a) p.short q.short i;
@@ -136,13 +137,13 @@ module _ (limit : ℕ) (ds : List Definition) where
     cases = each_prop (IsCaseWithin limit ds d.arity) (case_prop d.arity) d.cases p.cases q.cases i;
   }
 
-pub within_prop : (version : Version) (limit : ℕ) (ds : List Definition) (lines : List Command) (goal : Judgement)
+pub within_prop : (version : Version) (limit : Limits) (ds : List Definition) (lines : List Command) (goal : Judgement)
     → IsProp (IsProblemWithin version limit ds lines goal)
 within_prop version limit ds lines goal p q = λ i. record {
   few = le_prop p.few q.few i;
   definitions = each_prop (IsDefinitionWithin limit ds) (definition_prop limit ds) ds p.definitions q.definitions i;
   program = program_prop lines p.program q.program i;
-  commands = each_prop (IsCommandOf version) (of_version_prop version) lines p.commands q.commands i;
+  commands = each_prop (IsCommandOf version limit) (of_version_prop version limit) lines p.commands q.commands i;
   goal = judgement_prop limit ds (length lines) goal p.goal q.goal i;
   free = λ n d at. true_prop (is_free_name reserved d.name) (p.free n d at) (q.free n d at) i;
   own = λ m n d e at_m at_n same. Coded-set coded_ℕ m n (p.own m n d e at_m at_n same) (q.own m n d e at_m at_n same) i;

@@ -4,6 +4,7 @@ use Rattle.std.proofs.Common.{None, refl, sym, ap, ◌∙◌, subst, arith}
 use Rattle.std.specs.Prelude.{nat_le, is_some, slice_get, if◌then◌else◌}
 use Rattle.std.specs.Str.{bytes_eq}
 use Rattle.std.proofs.lemmas.Slice.Eq.{bytes_eq-Decides}
+use Rattle.cyc_basics.specs.declared.limits.Limits.{Limits}
 use Rattle.heap_formula.specs.Definitions.{Definition as DefinitionValue}
 use Rattle.cyc_lex.specs.declared.fault.What.TheVariants.{Predicates}
 use Rattle.cyc_lex.specs.declared.fault.IllFault.TheVariants.{Duplicate}
@@ -27,15 +28,15 @@ of_member f (x ∷ xs) zero y e = let same : f x ≡ y = cc in (x, refl, same)
 of_member f (x ∷ xs) (suc n) y e = of_member f xs n y e
 
 -- no definition before has the name
-is_new : (limit : ℕ) (hs : List Heading) (n k : ℕ) (d : Definition) → definition_flaw limit hs n k d ≡ None
+is_new : (limit : Limits) (hs : List Heading) (n k : ℕ) (d : Definition) → definition_flaw limit hs n k d ≡ None
     → arity_in (take n hs) d.name ≡ None
 is_new limit hs n k d e =
     let taken = is_some (arity_in (take n hs) d.name) in
-    let a = neither (head_flaw hs n k d) (cases_flaw limit hs (length d.parameters)
+    let a = neither (head_flaw limit hs n k d) (cases_flaw limit hs (length d.parameters)
     (k + 3 + parameters_span d.parameters + 1) d.cases) e in
     let b = neither (over_if (nat_le 4096 n) Predicates k)
-    (or_later (ill_if taken Duplicate (k + 1)) (parameters_flaw (k + 3) d.parameters)) a.0 in
-    let c = neither (ill_if taken Duplicate (k + 1)) (parameters_flaw (k + 3) d.parameters) b.1 in
+    (or_later (ill_if taken Duplicate (k + 1)) (parameters_flaw limit (k + 3) d.parameters)) a.0 in
+    let c = neither (ill_if taken Duplicate (k + 1)) (parameters_flaw limit (k + 3) d.parameters) b.1 in
     is_none (arity_in (take n hs) d.name) (not_ill taken Duplicate (k + 1) c.0)
 
 -- a definition before that has the name gives its arity
@@ -60,7 +61,7 @@ not_new (y ∷ ys) (suc p) (suc q) x name at same less none = by_test (bytes_eq 
 equal_unless_apart : (p q : ℕ) → (p < q → ⊥) → (q < p → ⊥) → p ≡ q
 equal_unless_apart p q f g = omega arith
 
-module _ (limit : ℕ) (xs : List Definition) (hs : List Heading)
+module _ (limit : Limits) (xs : List Definition) (hs : List Heading)
     (right : definitions_flaw limit (headings xs) 4 xs ≡ None) where
   apart : (p q : ℕ) (d e : Definition) → slice_get xs p ≡ Some d → slice_get xs q ≡ Some e → d.name ≡ e.name → p < q → ⊥
   apart p q d e at_p at_q same less =

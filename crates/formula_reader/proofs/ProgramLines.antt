@@ -3,6 +3,7 @@ use Rattle.std.proofs.Common.{◌≡◌, ℕ, suc, ◌+◌, ◌^◌, ◌<◌, �
 use Rattle.std.proofs.Common.{None, refl, sym, ap, subst, arith, eq-eqb}
 use Rattle.std.specs.Prelude.{not, ◌&&◌, ◌||◌, nat_eq, nat_lt, nat_le, slice_get}
 use Rattle.std.proofs.lemmas.Bool.{le-ltb, lt-leb, ne_eqb, and_from, and_left, and_right, or_from}
+use Rattle.cyc_basics.specs.declared.limits.Limits.{Limits}
 use Rattle.heap_formula.specs.declared.terms.Term.{Term}
 use Rattle.heap_formula.specs.declared.terms.Term.TheVariants as terms
 use Rattle.heap_formula.specs.declared.commands.Command.{Command}
@@ -105,11 +106,11 @@ branch_fits : (t u : Term) (equal : Bool) (j : ℕ) → IsUniversal t → IsUniv
 unfolding syntax.branch syntax.last_number
 branch_fits t u equal j p q b c h = (operand_fits t p b, (sign_fits equal, (operand_fits u q c, h)))
 
-module _ (count : ℕ) (most : count ≤ 4096) where
+module _ (limit : Limits) (count : ℕ) (most : count ≤ 4096) where
   target_fits : (j : ℕ) → IsLineOf count j → j < 10 ^ 9
   target_fits j line = let last = line.1 in omega arith
 
-  command_fits : (version : Version) (i : ℕ) (c : Command) → IsLineAt count i c → IsCommandOf version c
+  command_fits : (version : Version) (i : ℕ) (c : Command) → IsLineAt count i c → IsCommandOf version limit c
       → (syntax.command version variable).fits (command_tree c)
   unfolding syntax.command syntax.update syntax.change syntax.source syntax.last_number syntax.field variable
   command_fits version i (commands.Assign x t) l known =
@@ -133,7 +134,8 @@ module _ (count : ℕ) (most : count ≤ 4096) where
       let b = l.few in (
         tt,
         test_fits (syntax.has_free_branches version) (operand_tree t, (false, (operand_tree u, j)))
-            (branch_fits t u false j l.universal.0 l.universal.1 (omega arith) (omega arith) (target_fits j l.stands.1)),
+            (branch_fits t u false j l.universal.0 l.universal.1 (omega arith) (omega arith)
+            (target_fits j l.stands.1)),
       )
   command_fits version i (commands.IfAny j) l known =
       (tt, free_fits (syntax.has_free_branches version) j known (target_fits j l.stands.1))
@@ -141,7 +143,7 @@ module _ (count : ℕ) (most : count ≤ 4096) where
   command_fits version i commands.Stop l known = (tt, tt)
 
   lines_fit : (version : Version) (n : ℕ) (cs : List Command) → n + length cs ≤ count → AreLines count n cs
-      → Each (IsCommandOf version) cs → fits_many (syntax.line version variable) (lines_behind n cs)
+      → Each (IsCommandOf version limit) cs → fits_many (syntax.line version variable) (lines_behind n cs)
   unfolding syntax.line
   lines_fit version n [] within ls known = tt
   lines_fit version n (c ∷ cs) within ls known = (
@@ -149,11 +151,11 @@ module _ (count : ℕ) (most : count ≤ 4096) where
     lines_fit version (n + 1) cs (omega arith) ls.1 known.1,
   )
 
-pub program_fits : (version : Version) (cs : List Command) → IsProgram cs → Each (IsCommandOf version) cs
-    → (grammar.lines version).fits (lines_tree cs)
+pub program_fits : (version : Version) (limit : Limits) (cs : List Command) → IsProgram cs
+    → Each (IsCommandOf version limit) cs → (grammar.lines version).fits (lines_tree cs)
 unfolding syntax.lines
-program_fits version cs program known =
-    lines_fit (length cs) program.few_lines version 0 cs (omega arith) (program_lines cs program) known
+program_fits version limit cs program known =
+    lines_fit limit (length cs) program.few_lines version 0 cs (omega arith) (program_lines cs program) known
 
 -- ---- the lines have no flaw
 
@@ -172,26 +174,25 @@ operand_good terms.Nil u b k = refl
 operand_good (terms.Univ n) u b k = variable_good n (omega arith) k
 operand_good (terms.Exist n) u b k = absurd u
 
-field_good : (n : ℕ) → IsFieldNumber n → (k : ℕ) → field_flaw k n ≡ None
-field_good n h k =
-    let some = h.0 in
-    let most = h.1 in
-    no_over (nat_eq n 0 || nat_lt 8 n) Fields k (or_from (nat_eq n 0) (nat_lt 8 n) (ne_eqb n 0 (λ e. omega arith))
-    (le-ltb 8 n most))
+field_good : (limit : Limits) (n : ℕ) → 0 < n → n ≤ limit.arguments → (k : ℕ) → field_flaw limit k n ≡ None
+field_good limit n some most k =
+    let narrow = limit.arguments in
+    no_over (nat_eq n 0 || nat_lt narrow n) Fields k (or_from (nat_eq n 0) (nat_lt narrow n)
+    (ne_eqb n 0 (λ e. omega arith)) (le-ltb narrow n most))
 
-store_good : (count : ℕ) (t : Term) (n : ℕ) (u : Term) → IsFieldNumber n → IsUniversal t → IsUniversal u
-    → univ_bound t ≤ 64 → univ_bound u ≤ 64 → (k : ℕ) → command_flaw variable_flaw variable_span count k
-    (command_tree (commands.Store t n u)) ≡ None
-store_good count terms.Nil n u h p q b c k =
-    none_later (field_flaw (k + 2) n) (operand_flaw variable_flaw variable_span (k + 4) (operand_tree u))
-    (field_good n h (k + 2)) (operand_good u q c (k + 4))
-store_good count (terms.Univ x) n u h p q b c k =
+store_good : (limit : Limits) (count : ℕ) (t : Term) (n : ℕ) (u : Term) → 0 < n → n ≤ limit.arguments → IsUniversal t
+    → IsUniversal u → univ_bound t ≤ 64 → univ_bound u ≤ 64 → (k : ℕ)
+    → command_flaw variable_flaw variable_span limit count k (command_tree (commands.Store t n u)) ≡ None
+store_good limit count terms.Nil n u some most p q b c k =
+    none_later (field_flaw limit (k + 2) n) (operand_flaw variable_flaw variable_span (k + 4) (operand_tree u))
+    (field_good limit n some most (k + 2)) (operand_good u q c (k + 4))
+store_good limit count (terms.Univ x) n u some most p q b c k =
     none_later (variable_flaw k x) _ (variable_good x (omega arith) k)
-    (none_later (field_flaw (k + 3) n) (operand_flaw variable_flaw variable_span (k + 3 + 2) (operand_tree u))
-    (field_good n h (k + 3)) (operand_good u q c (k + 3 + 2)))
-store_good count (terms.Exist x) n u h p q b c k = absurd p
+    (none_later (field_flaw limit (k + 3) n) (operand_flaw variable_flaw variable_span (k + 3 + 2) (operand_tree u))
+    (field_good limit n some most (k + 3)) (operand_good u q c (k + 3 + 2)))
+store_good limit count (terms.Exist x) n u some most p q b c k = absurd p
 
-module _ (count : ℕ) (most : count ≤ 4096) where
+module _ (limit : Limits) (count : ℕ) (most : count ≤ 4096) where
   jump_good : (j : ℕ) → IsLineOf count j → (k : ℕ) → jump_flaw count k j ≡ None
   jump_good j line k =
       let first = line.0 in
@@ -212,32 +213,33 @@ module _ (count : ℕ) (most : count ≤ 4096) where
       (none_later (operand_flaw variable_flaw variable_span at (operand_tree u)) (jump_flaw count next j)
       (operand_good u q c at) (jump_good j line next))
 
-  command_good : (i : ℕ) (c : Command) → IsLineAt count i c → (k : ℕ)
-      → command_flaw variable_flaw variable_span count k (command_tree c) ≡ None
-  command_good i (commands.Assign x t) l k =
+  command_good : (version : Version) (i : ℕ) (c : Command) → IsLineAt count i c → IsCommandOf version limit c → (k : ℕ)
+      → command_flaw variable_flaw variable_span limit count k (command_tree c) ≡ None
+  command_good version i (commands.Assign x t) l known k =
       let b = l.few in
       none_later (variable_flaw k x) (operand_flaw variable_flaw variable_span (k + 3) (operand_tree t))
       (variable_good x (omega arith) k) (operand_good t l.universal (omega arith) (k + 3))
-  command_good i (commands.Load x t n) l k =
+  command_good version i (commands.Load x t n) l known k =
       let b = l.few in
       let at = k + 3 + operand_span variable_span (operand_tree t) in
       none_later (variable_flaw k x) _ (variable_good x (omega arith) k)
-      (none_later (operand_flaw variable_flaw variable_span (k + 3) (operand_tree t)) (field_flaw at n)
-      (operand_good t l.universal (omega arith) (k + 3)) (field_good n l.stands.1 at))
-  command_good i (commands.Store t n u) l k =
-      let b = l.few in store_good count t n u l.stands.1 l.universal.0 l.universal.1 (omega arith) (omega arith) k
-  command_good i (commands.New x n) l k =
+      (none_later (operand_flaw variable_flaw variable_span (k + 3) (operand_tree t)) (field_flaw limit at n)
+      (operand_good t l.universal (omega arith) (k + 3)) (field_good limit n l.stands.1.0 known at))
+  command_good version i (commands.Store t n u) l known k =
+      let b = l.few in store_good limit count t n u l.stands.1.0 known l.universal.0 l.universal.1 (omega arith)
+      (omega arith) k
+  command_good version i (commands.New x n) l known k =
       let b = l.few in
-      none_later (variable_flaw k x) (field_flaw (k + 3 + 1) n) (variable_good x (omega arith) k)
-      (field_good n l.stands.1 (k + 3 + 1))
-  command_good i (commands.Free t) l k = operand_good t l.universal l.few (k + 1)
-  command_good i (commands.IfEq t u j) l k =
+      none_later (variable_flaw k x) (field_flaw limit (k + 3 + 1) n) (variable_good x (omega arith) k)
+      (field_good limit n l.stands.1.0 known (k + 3 + 1))
+  command_good version i (commands.Free t) l known k = operand_good t l.universal l.few (k + 1)
+  command_good version i (commands.IfEq t u j) l known k =
       let b = l.few in branch_good t u j l.universal.0 l.universal.1 (omega arith) (omega arith) l.stands.1 (k + 1)
-  command_good i (commands.IfNeq t u j) l k =
+  command_good version i (commands.IfNeq t u j) l known k =
       let b = l.few in branch_good t u j l.universal.0 l.universal.1 (omega arith) (omega arith) l.stands.1 (k + 1)
-  command_good i (commands.IfAny j) l k = jump_good j l.stands.1 (k + 3)
-  command_good i (commands.Goto j) l k = jump_good j l.stands (k + 1)
-  command_good i commands.Stop l k = refl
+  command_good version i (commands.IfAny j) l known k = jump_good j l.stands.1 (k + 3)
+  command_good version i (commands.Goto j) l known k = jump_good j l.stands (k + 1)
+  command_good version i commands.Stop l known k = refl
 
   -- after the last line none follows
   before : (n : ℕ) → n + 1 < count → (b : Bool) → (nat_eq (suc n) count && b) ≡ false
@@ -256,40 +258,44 @@ module _ (count : ℕ) (most : count ≤ 4096) where
   stays n (commands.Goto j) s = and_right (nat_eq (suc n) count) false refl
   stays n commands.Stop s = and_right (nat_eq (suc n) count) false refl
 
-  line_good : (n : ℕ) (c : Command) → n < count → IsLineAt count (n + 1) c → (k : ℕ)
-      → line_flaw variable_flaw variable_span count n k (record { number = n + 1; command = command_tree c }) ≡ None
-  line_good n c h l k =
+  line_good : (version : Version) (n : ℕ) (c : Command) → n < count → IsLineAt count (n + 1) c
+      → IsCommandOf version limit c → (k : ℕ)
+      → line_flaw variable_flaw variable_span limit count n k
+          (record { number = n + 1; command = command_tree c }) ≡ None
+  line_good version n c h l known k =
       let own : not (nat_eq (n + 1) (suc n)) ≡ false = ap not (eq-eqb (n + 1) (suc n) (omega arith)) in
       let numbered = no_ill (not (nat_eq (n + 1) (suc n))) Numbering (k + 1) own in
       let few = no_over (nat_le 4096 n) Lines k (lt-leb 4096 n (omega arith)) in
       let last = no_ill (nat_eq (suc n) count && goes_on (command_tree c)) FallsOff k (stays n c l.stands) in
       none_later (line_head_flaw count n k (n + 1) (goes_on (command_tree c)))
-      (command_flaw variable_flaw variable_span count (k + 3) (command_tree c))
-      (none_later _ _ last (none_later _ _ few numbered)) (command_good (n + 1) c l (k + 3))
+      (command_flaw variable_flaw variable_span limit count (k + 3) (command_tree c))
+      (none_later _ _ last (none_later _ _ few numbered)) (command_good version (n + 1) c l known (k + 3))
 
-  lines_good : (n : ℕ) (cs : List Command) → n + length cs ≤ count → AreLines count n cs → (k : ℕ)
-      → listed_flaw (line_flaw variable_flaw variable_span count) (line_span variable_span) n k (lines_behind n cs)
-      ≡ None
-  lines_good n [] within ls k = refl
-  lines_good n (c ∷ cs) within ls k =
-      let flaw = line_flaw variable_flaw variable_span count in
+  lines_good : (version : Version) (n : ℕ) (cs : List Command) → n + length cs ≤ count → AreLines count n cs
+      → Each (IsCommandOf version limit) cs → (k : ℕ)
+      → listed_flaw (line_flaw variable_flaw variable_span limit count) (line_span variable_span) n k
+      (lines_behind n cs) ≡ None
+  lines_good version n [] within ls known k = refl
+  lines_good version n (c ∷ cs) within ls known k =
+      let flaw = line_flaw variable_flaw variable_span limit count in
       let span = line_span variable_span in
       let line : Line = record { number = n + 1; command = command_tree c } in
       let next : n + 1 ≡ suc n = omega arith in
       let rest = subst (λ (m : ℕ). listed_flaw flaw span m (k + span line) (lines_behind (n + 1) cs) ≡ None) next
-      (lines_good (n + 1) cs (omega arith) ls.1 (k + span line)) in
+      (lines_good version (n + 1) cs (omega arith) ls.1 known.1 (k + span line)) in
       none_later (flaw n k line) (listed_flaw flaw span (suc n) (k + span line) (lines_behind (n + 1) cs))
-      (line_good n c (omega arith) ls.0 k) rest
+      (line_good version n c (omega arith) ls.0 known.0 k) rest
 
 pub lines_long : (n : ℕ) (cs : List Command) → length (lines_behind n cs) ≡ length cs
 lines_long n [] = refl
 lines_long n (c ∷ cs) = let r = lines_long (n + 1) cs in omega arith
 
-pub program_flawless : (cs : List Command) → IsProgram cs → (k : ℕ) → program_flaw k (lines_tree cs) ≡ None
-program_flawless cs program k =
-    subst (λ (count : ℕ). listed_flaw (line_flaw variable_flaw variable_span count) (line_span variable_span) 0 k
-    (lines_tree cs) ≡ None) (sym (lines_long 0 cs)) (lines_good (length cs) program.few_lines 0 cs (omega arith)
-    (program_lines cs program) k)
+pub program_flawless : (version : Version) (limit : Limits) (cs : List Command) → IsProgram cs
+    → Each (IsCommandOf version limit) cs → (k : ℕ) → program_flaw limit k (lines_tree cs) ≡ None
+program_flawless version limit cs program known k =
+    subst (λ (count : ℕ). listed_flaw (line_flaw variable_flaw variable_span limit count) (line_span variable_span) 0 k
+    (lines_tree cs) ≡ None) (sym (lines_long 0 cs)) (lines_good limit (length cs) program.few_lines version 0 cs
+    (omega arith) (program_lines cs program) known k)
 
 -- ---- no existential variable stands in them
 

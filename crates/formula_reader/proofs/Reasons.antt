@@ -2,6 +2,7 @@
 use Rattle.std.proofs.Common.{◌≡◌, ℕ, ◌+◌, ◌≤◌, true, List, [], ◌∷◌, map, length, None, refl, ap, arith}
 use Rattle.std.specs.Prelude.{nat_lt}
 use Rattle.std.proofs.lemmas.Bool.{and_from, le-ltb}
+use Rattle.cyc_basics.specs.declared.limits.Limits.{Limits}
 use Rattle.heap_formula.specs.declared.terms.Term.{Term}
 use Rattle.heap_formula.specs.declared.proof_rules.Rule.TheVariants.{Absurd, Rewrite, Split, Distinct, Weaken, Unfold}
 use Rattle.heap_formula.specs.declared.proof_rules.Rule.TheVariants.{Cut, Done, Choose, PureRight, Instantiate, Frame}
@@ -61,7 +62,7 @@ pairs_fit (p ∷ ps) w = (
 
 -- ---- reasons
 
-module _ (limit : ℕ) (ds : List Definition) where
+module _ (limit : Limits) (ds : List Definition) where
   pub reason_fits : HaveFreeNames ds → (r : Reason) → IsReasonWithin limit ds r → HasShortNumbers r
       → grammar.reason.fits (reason_tree ds r)
   unfolding grammar.reason grammar.parts grammar.rewrite grammar.side grammar.split grammar.two_numbers grammar.cut
@@ -107,26 +108,29 @@ module _ (limit : ℕ) (ds : List Definition) where
   pair_flawless : (n k : ℕ) (p : ℕ × Term) → IsPairWithin p → pair_flaw k (pair_tree p) ≡ None
   pair_flawless n k p w = none_later _ _ (variable_low p.0 (k + 1) w.0) (term_flawless p.1 w.1.1 (k + 3))
 
-  pub reason_flawless : HaveOwnNames ds → HaveFewParameters ds → (r : Reason) → IsReasonWithin limit ds r → (k : ℕ)
+  pub reason_flawless : 8 ≤ limit.arguments → HaveOwnNames ds → HaveFewParameters limit ds → (r : Reason)
+      → IsReasonWithin limit ds r
+      → (k : ℕ)
       → reason_flaw limit (heads_of ds ds) k (reason_tree ds r) ≡ None
-  reason_flawless own few (Step Absurd) w k = refl
-  reason_flawless own few (Step (Rewrite i side)) w k = refl
-  reason_flawless own few (Step (Split t u)) w k =
+  reason_flawless wide own few (Step Absurd) w k = refl
+  reason_flawless wide own few (Step (Rewrite i side)) w k = refl
+  reason_flawless wide own few (Step (Split t u)) w k =
       none_later _ _ (term_flawless t w.0.1 (k + 1)) (term_flawless u w.1.1 (k + term_span (term_tree t)))
-  reason_flawless own few (Step (Distinct i j)) w k = refl
-  reason_flawless own few (Step (Weaken i)) w k = refl
-  reason_flawless own few (Step (Unfold i)) w k = refl
-  reason_flawless own few (Step (Cut places f)) w k = node_heap_flawless limit ds own few f w (k + 3 + length places)
-  reason_flawless own few (Step Done) w k = refl
-  reason_flawless own few (Step (Choose j)) w k = refl
-  reason_flawless own few (Step (PureRight i)) w k = refl
-  reason_flawless own few (Step (Instantiate v t)) w k = none_later _ _ (variable_low v (k + 2) w.0)
+  reason_flawless wide own few (Step (Distinct i j)) w k = refl
+  reason_flawless wide own few (Step (Weaken i)) w k = refl
+  reason_flawless wide own few (Step (Unfold i)) w k = refl
+  reason_flawless wide own few (Step (Cut places f)) w k = node_heap_flawless limit ds wide own few f w
+      (k + 3 + length places)
+  reason_flawless wide own few (Step Done) w k = refl
+  reason_flawless wide own few (Step (Choose j)) w k = refl
+  reason_flawless wide own few (Step (PureRight i)) w k = refl
+  reason_flawless wide own few (Step (Instantiate v t)) w k = none_later _ _ (variable_low v (k + 2) w.0)
       (term_flawless t w.1.1 (k + 3))
-  reason_flawless own few (Step (Frame i j)) w k = refl
-  reason_flawless own few (Step (UnfoldRight j c)) w k = refl
-  reason_flawless own few (Step Exec) w k = refl
-  reason_flawless own few (Step (Drop i)) w k = refl
-  reason_flawless own few (Back link) w k =
+  reason_flawless wide own few (Step (Frame i j)) w k = refl
+  reason_flawless wide own few (Step (UnfoldRight j c)) w k = refl
+  reason_flawless wide own few (Step Exec) w k = refl
+  reason_flawless wide own few (Step (Drop i)) w k = refl
+  reason_flawless wide own few (Back link) w k =
       none_listed (λ n. pair_flaw) pair_span pair_tree IsPairWithin (length link.subst)
       (λ n j p below q. pair_flawless n j p q) 0 (k + 3) link.subst (omega arith) w
 

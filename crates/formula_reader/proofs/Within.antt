@@ -1,10 +1,13 @@
 -- What a text without a flaw says is within the limits of the formats, in terms of its values.
-use Rattle.std.proofs.Common.{◌≡◌, ℕ, ◌+◌, ◌<◌, ◌≤◌, Bool, true, false, List, [], ◌∷◌, length, map, Option, Some, None}
+use Rattle.std.proofs.Common.{◌≡◌, ℕ, ◌+◌, ◌<◌, ◌≤◌, Bool, true, false, List, [], ◌∷◌, length, map, take, Option, Some}
+use Rattle.std.proofs.Common.{None}
 use Rattle.std.proofs.Common.{refl, sym, subst, arith}
-use Rattle.std.specs.Prelude.{not, ◌||◌, nat_eq, nat_lt, nat_le}
+use Rattle.std.specs.Prelude.{not, ◌||◌, nat_eq, nat_lt, nat_le, is_some}
 use Rattle.std.proofs.Math.Logic.{∥∥₁_elim}
 use Rattle.std.proofs.lemmas.Bool.{ltb-false, or_parts, eqb-false}
 use Rattle.std.proofs.lemmas.List.{length-map}
+use Rattle.cyc_basics.specs.declared.limits.Limits.{Limits}
+use Rattle.cyc_basics.specs.Limits.{AreLimits}
 use Rattle.heap_formula.specs.declared.terms.Term.{Term}
 use Rattle.heap_formula.specs.declared.commands.Command.{Command}
 use Rattle.heap_formula.specs.declared.judgements.Judgement.{Judgement}
@@ -19,8 +22,8 @@ use Rattle.pred_defs.specs.declared.faults.DefFault.{DefFault}
 use Rattle.pred_defs.specs.Faults.{case_fault, definition_fault, first_fault, or_later as then_fault}
 use Rattle.rule_book.specs.Limits.{IsHeapWithin, IsJudgementWithin, IsCaseWithin, IsDefinitionWithin}
 use Rattle.rule_book.proofs.Heaps.{IsLow}
-use Rattle.cyc_lex.specs.declared.fault.What.TheVariants.{Cases, Disjuncts, Locals, Variable}
-use Rattle.cyc_lex.specs.declared.fault.IllFault.TheVariants.{NoLine, Parameter}
+use Rattle.cyc_lex.specs.declared.fault.What.TheVariants.{Cases, Disjuncts, Locals, Predicates, Variable}
+use Rattle.cyc_lex.specs.declared.fault.IllFault.TheVariants.{Duplicate, NoLine, Parameter}
 use Rattle.cyc_grammar.specs.Syntax.{Syntax, Class}
 use Rattle.cyc_grammar.specs.Classes.{is_free_name}
 use Rattle.heap_syntax.specs.Grammar as shared
@@ -31,14 +34,14 @@ use Rattle.problem_syntax.specs.Grammar.{heap, cases, definition, definitions, d
 use Rattle.problem_syntax.specs.Grammar.{last_part, body, problem}
 use Rattle.heap_reader.specs.Trees.{Heading}
 use Rattle.heap_reader.specs.Spans.{heap_span}
-use Rattle.heap_reader.specs.Flaws.{ill_if, over_if, or_later, heap_flaw, counted_flaw, heaps_flaw}
+use Rattle.heap_reader.specs.Flaws.{ill_if, over_if, or_later, arity_in, heap_flaw, counted_flaw, heaps_flaw}
 use Rattle.heap_reader.specs.LineFlaws.{lines_flaw}
-use Rattle.heap_reader.specs.Small.{IsSmallHeap}
 use Rattle.heap_reader.specs.Values.{heap_value}
 use Rattle.heap_reader.specs.LineValues.{line_value, variable_value, program_value}
 use Rattle.heap_reader.proofs.Programs.{lines_universal}
-use Rattle.heap_syntax.specs.Versions.{most_spatial}
-use Rattle.heap_reader.proofs.Fitting.{most_fits, heap_few, heaps_few}
+use Rattle.heap_syntax.specs.Versions.{limits}
+use Rattle.heap_reader.specs.Small.{IsSmallHeap}
+use Rattle.heap_reader.proofs.Fitting.{most_fits, HasFewAtoms, heap_few, heaps_few, heaps_small}
 use Rattle.heap_reader.proofs.NoFlaw.{neither, not_over, not_ill, at_most, below, each_of as each_flawless}
 use Rattle.problem_syntax.specs.declared.numbering.tree.NumberedTerm.{NumberedTerm}
 use Rattle.problem_syntax.specs.declared.numbering.tree.NumberedTerm.TheVariants.{Nil, Universal, Existential}
@@ -51,13 +54,14 @@ use Rattle.formula_reader.specs.declared.problem.Problem.{Problem as ProblemValu
 use Rattle.formula_reader.specs.declared.terms.Scope.TheVariants.{Goal as InGoal, Case as InCase}
 use Rattle.formula_reader.specs.Spans.{term_span, variable_span, lines_span, parameters_span, definition_span}
 use Rattle.formula_reader.specs.Spans.{definitions_span}
-use Rattle.formula_reader.specs.Flaws.{headings, term_flaw, variable_flaw, head_flaw, cases_flaw, definition_flaw}
+use Rattle.formula_reader.specs.Flaws.{headings, term_flaw, variable_flaw, parameters_flaw, head_flaw, cases_flaw}
+use Rattle.formula_reader.specs.Flaws.{definition_flaw}
 use Rattle.formula_reader.specs.Flaws.{definitions_flaw, goal_flaw, problem_flaw}
 use Rattle.formula_reader.specs.Small.{IsSmallDefinition, IsSmallGoal}
 use Rattle.formula_reader.specs.Values.{term_value, definition_value, goal_value}
 use Rattle.formula_reader.proofs.Universal.{universal_heap}
 use Rattle.formula_reader.specs.Problems.{IsOfText, goal_fault, has_line}
-use Rattle.formula_reader.proofs.Fitting.{definition_small}
+use Rattle.formula_reader.proofs.Fitting.{term_small, parameters_few, definition_small}
 use Rattle.formula_reader.proofs.Keeping.{small_of, is_closed, is_known, has_universal_antecedent, has_its_line}
 use Rattle.formula_reader.proofs.HeapsWithin.{heap_keeps, in_heap_each, heap_bounded, heap_open, heap_within}
 use Rattle.formula_reader.proofs.OwnNames.{own_names}
@@ -89,20 +93,20 @@ heaps_parts between behind a (x ∷ xs) f = (f.0, (f.1.0, behind_fit between a x
 
 -- ---- terms
 
--- a term of a case of a predicate with so many parameters
-record IsCaseTerm (arity : ℕ) (t : Term) : Type 0 where
+-- a term of a case of a predicate with so many parameters, which may have so many locals
+record IsCaseTerm (arity locals : ℕ) (t : Term) : Type 0 where
   low : IsLow t
   parameter : univ_bound t ≤ arity
-  few : exist_bound t ≤ 16
+  few : exist_bound t ≤ locals
 
-case_term : (arity : ℕ) → arity ≤ 8 → (k : ℕ) (t : NumberedTerm) → term_flaw (InCase arity) k t ≡ None
-    → IsCaseTerm arity (term_value t)
-case_term arity narrow k Nil e = record { low = omega arith; parameter = omega arith; few = omega arith }
-case_term arity narrow k (Universal n primed) e =
+case_term : (arity locals : ℕ) → arity ≤ 8 → locals ≤ 64 → (k : ℕ) (t : NumberedTerm)
+    → term_flaw (InCase arity locals) k t ≡ None → IsCaseTerm arity locals (term_value t)
+case_term arity locals narrow few k Nil e = record { low = omega arith; parameter = omega arith; few = omega arith }
+case_term arity locals narrow few k (Universal n primed) e =
     let h = below arity n (not_ill (nat_le arity n) Parameter k e) in
     record { low = omega arith; parameter = omega arith; few = omega arith }
-case_term arity narrow k (Existential n primed) e =
-    let h = at_most 15 n (not_over (nat_lt 15 n) Locals k e) in
+case_term arity locals narrow few k (Existential n primed) e =
+    let h = below locals n (not_over (nat_le locals n) Locals k e) in
     record { low = omega arith; parameter = omega arith; few = omega arith }
 
 goal_term : (k : ℕ) (t : NumberedTerm) → term_flaw InGoal k t ≡ None → IsLow (term_value t)
@@ -112,14 +116,16 @@ goal_term k (Existential n primed) e = let h = at_most 65534 n (not_over (nat_lt
 
 -- ---- definitions
 
-module _ (limit : ℕ) (bounded : limit ≤ 32) (hs : List Heading) where
+module _ (limit : Limits) (bounded : AreLimits limit) (hs : List Heading) where
   abbrev HasCaseTerms : ℕ → Heap → Type 0
-  HasCaseTerms arity h = InHeap (IsCaseTerm arity) (heap_value term_value hs h)
+  HasCaseTerms arity h = InHeap (IsCaseTerm arity limit.locals) (heap_value term_value hs h)
 
   -- what a definition without a flaw keeps
   record IsGood (d : Definition) : Type 0 where
     small : IsSmallDefinition d
-    short : Each (λ (c : Heap). length c.spatial ≤ limit) d.cases
+    parameters : length d.parameters ≤ limit.arguments
+    short : Each (HasFewAtoms limit) d.cases
+    few : length d.cases ≤ limit.cases
     terms : Each (HasCaseTerms (length d.parameters)) d.cases
 
   good : (n k : ℕ) (d : Definition) → definition_flaw limit hs n k d ≡ None → IsGood d
@@ -127,21 +133,33 @@ module _ (limit : ℕ) (bounded : limit ≤ 32) (hs : List Heading) where
       let p = k + 3 + parameters_span d.parameters + 1 in
       let arity = length d.parameters in
       let small = (definition_small limit bounded hs n k d e).1 in
-      let a = neither (head_flaw hs n k d) (cases_flaw limit hs arity p d.cases) e in
+      let flaw = term_flaw (InCase arity limit.locals) in
+      let a = neither (head_flaw limit hs n k d) (cases_flaw limit hs arity p d.cases) e in
+      let b = neither (over_if (nat_le 4096 n) Predicates k)
+      (or_later (ill_if (is_some (arity_in (take n hs) d.name)) Duplicate (k + 1))
+      (parameters_flaw limit (k + 3) d.parameters)) a.0 in
+      let c = neither (ill_if (is_some (arity_in (take n hs) d.name)) Duplicate (k + 1))
+      (parameters_flaw limit (k + 3) d.parameters) b.1 in
+      let cases = heaps_small flaw term_span term_value
+      (term_small (InCase arity limit.locals)
+      (small.parameters, bounded.locals)) limit bounded hs Cases p d.cases a.1 in
       record {
         small = small;
-        short = heaps_few (term_flaw (InCase arity)) term_span limit hs Cases p d.cases a.1;
-        terms = each_flawless (counted_flaw (term_flaw (InCase arity)) term_span limit hs Cases) (heap_span term_span)
-            (HasCaseTerms arity) (λ m j c g. heap_keeps (term_flaw (InCase arity)) term_span term_value
-            (IsCaseTerm arity) (case_term arity small.parameters) limit hs j c
-            (neither (over_if (nat_le 16 m) Cases j) (heap_flaw (term_flaw (InCase arity)) term_span limit hs j c) g).1)
+        parameters = parameters_few limit (k + 3) d.parameters c.1;
+        short = heaps_few flaw term_span limit hs Cases p d.cases a.1;
+        few = cases.1;
+        terms = each_flawless (counted_flaw flaw term_span limit hs Cases) (heap_span term_span)
+            (HasCaseTerms arity) (λ m j x g. heap_keeps flaw term_span term_value (IsCaseTerm arity limit.locals)
+            (case_term arity limit.locals small.parameters bounded.locals) limit hs j x
+            (neither (over_if (nat_le limit.cases m) Cases j) (heap_flaw flaw term_span limit hs j x) g).1)
             0 p d.cases a.1;
       }
 
   module _ (ds : List DefinitionValue) where
     case_within : (ps : List Name) (arity : ℕ) (h : named.Heap) → (heap false).fits h
-        → IsSmallHeap term_value (numbers.case ps h) → length (numbers.case ps h).spatial ≤ limit
-        → HasCaseTerms arity (numbers.case ps h) → case_fault ds (heap_value term_value hs (numbers.case ps h)) ≡ None
+        → IsSmallHeap term_value (numbers.case ps h) → HasFewAtoms limit (numbers.case ps h)
+        → HasCaseTerms arity (numbers.case ps h)
+        → case_fault ds (heap_value term_value hs (numbers.case ps h)) ≡ None
         → IsCaseWithin limit ds arity (heap_value term_value hs (numbers.case ps h))
     unfolding numbers.case
     case_within ps arity h fits small short terms known =
@@ -149,15 +167,16 @@ module _ (limit : ℕ) (bounded : limit ≤ 32) (hs : List Heading) where
         let a = heap_value term_value hs (numbers.heap scope h) in
         record {
           heap = heap_within limit hs scope ds false h fits small short
-              (in_heap_each (IsCaseTerm arity) IsLow (λ t c. c.low) a terms) known;
-          parameters = heap_bounded arity a (in_heap_each (IsCaseTerm arity) (λ t. univ_bound t ≤ arity)
+              (in_heap_each (IsCaseTerm arity limit.locals) IsLow (λ t c. c.low) a terms) known;
+          parameters = heap_bounded arity a (in_heap_each (IsCaseTerm arity limit.locals) (λ t. univ_bound t ≤ arity)
               (λ t c. c.parameter) a terms);
-          locals = heap_open 16 a (in_heap_each (IsCaseTerm arity) (λ t. exist_bound t ≤ 16) (λ t c. c.few) a terms);
+          locals = heap_open limit.locals a (in_heap_each (IsCaseTerm arity limit.locals)
+              (λ t. exist_bound t ≤ limit.locals) (λ t c. c.few) a terms);
         }
 
     cases_within : (ps : List Name) (arity : ℕ) (xs : List named.Heap) → Each (heap false).fits xs
         → Each (IsSmallHeap term_value) (map (numbers.case ps) xs)
-        → Each (λ (c : Heap). length c.spatial ≤ limit) (map (numbers.case ps) xs)
+        → Each (HasFewAtoms limit) (map (numbers.case ps) xs)
         → Each (HasCaseTerms arity) (map (numbers.case ps) xs)
         → Each (λ c. case_fault ds c ≡ None) (map (heap_value term_value hs) (map (numbers.case ps) xs))
         → Each (IsCaseWithin limit ds arity) (map (heap_value term_value hs) (map (numbers.case ps) xs))
@@ -176,11 +195,11 @@ module _ (limit : ℕ) (bounded : limit ≤ 32) (hs : List Heading) where
         let trees = map (numbers.case ps) d.cases in
         let parts = heaps_parts bar closing_brace (heap false) d.cases fits.1.1.1 in
         let some = parts.0 in
-        let few = g.small.few in
+        let few = g.few in
         let m = length-map d.cases (numbers.case ps) in
         let n = length-map trees (heap_value term_value hs) in
         record {
-          arity = g.small.parameters;
+          arity = g.parameters;
           some_case = omega arith;
           few = omega arith;
           cases = cases_within ps (length d.parameters) d.cases parts.1 g.small.cases g.short g.terms
@@ -223,13 +242,13 @@ line_of count i e =
         let most = ltb-false count i parts.1 in
         (omega arith, omega arith)
 
-module _ (limit : ℕ) (hs : List Heading) (ds : List DefinitionValue) where
+module _ (limit : Limits) (hs : List Heading) (ds : List DefinitionValue) where
   goal_heap_terms : (k : ℕ) (h : Heap) → heap_flaw (term_flaw InGoal) term_span limit hs k h ≡ None
       → InHeap IsLow (heap_value term_value hs h)
   goal_heap_terms k h e = heap_keeps (term_flaw InGoal) term_span term_value IsLow goal_term limit hs k h e
 
   disjunct_within : (us : List Name) (h : named.Heap) → (heap true).fits h
-      → IsSmallHeap term_value (numbers.disjunct us h) → length (numbers.disjunct us h).spatial ≤ limit
+      → IsSmallHeap term_value (numbers.disjunct us h) → HasFewAtoms limit (numbers.disjunct us h)
       → InHeap IsLow (heap_value term_value hs (numbers.disjunct us h))
       → case_fault ds (heap_value term_value hs (numbers.disjunct us h)) ≡ None
       → IsHeapWithin limit ds (heap_value term_value hs (numbers.disjunct us h))
@@ -239,7 +258,7 @@ module _ (limit : ℕ) (hs : List Heading) (ds : List DefinitionValue) where
 
   disjuncts_within : (us : List Name) (xs : List named.Heap) → Each (heap true).fits xs
       → Each (IsSmallHeap term_value) (map (numbers.disjunct us) xs)
-      → Each (λ (c : Heap). length c.spatial ≤ limit) (map (numbers.disjunct us) xs)
+      → Each (HasFewAtoms limit) (map (numbers.disjunct us) xs)
       → Each (λ h. InHeap IsLow (heap_value term_value hs h)) (map (numbers.disjunct us) xs)
       → Each (λ c. case_fault ds c ≡ None) (map (heap_value term_value hs) (map (numbers.disjunct us) xs))
       → Each (IsHeapWithin limit ds) (map (heap_value term_value hs) (map (numbers.disjunct us) xs))
@@ -291,8 +310,8 @@ module _ (limit : ℕ) (hs : List Heading) (ds : List DefinitionValue) where
       record {
         heaps = (
           heap_within limit hs (numbers.Antecedent us) ds true h fits.1.1 small
-              (heap_few (term_flaw InGoal) term_span limit hs (k + 4) left flaws.1) (goal_heap_terms (k + 4) left flaws.1)
-              each_known.0,
+              (heap_few (term_flaw InGoal) term_span limit hs (k + 4) left flaws.1)
+              (goal_heap_terms (k + 4) left flaws.1) each_known.0,
           tt,
         );
         universal = universal_heap (heap_value term_value hs left) universal;
@@ -303,22 +322,22 @@ module _ (limit : ℕ) (hs : List Heading) (ds : List DefinitionValue) where
 
 -- what a tree with names says
 text_within : (names : named.Problem) → problem.fits names → problem_flaw (numbered names) ≡ None
-    → IsProblemWithin names.version (most_spatial names.version)
+    → IsProblemWithin names.version (limits names.version)
     (map (definition_value (headings (numbered names).definitions)) (numbered names).definitions)
     (program_value (numbered names).lines) (goal_value (headings (numbered names).definitions) (numbered names).goal)
 unfolding problem body definitions last_part
 text_within names fits right =
     let tree = numbered names in
-    let limit = most_spatial names.version in
+    let limit = limits names.version in
     let text : IsOfText tree = (names, fits, refl) in
     let hs = headings tree.definitions in
     let ds = map (definition_value hs) tree.definitions in
     let at = 4 + definitions_span tree.definitions in
     let goal_at = at + lines_span tree.lines in
     let a = neither (definitions_flaw limit hs 4 tree.definitions)
-    (or_later (lines_flaw variable_flaw variable_span at tree.lines)
+    (or_later (lines_flaw variable_flaw variable_span limit at tree.lines)
     (goal_flaw limit hs (length tree.lines) goal_at tree.goal)) right in
-    let b = neither (lines_flaw variable_flaw variable_span at tree.lines)
+    let b = neither (lines_flaw variable_flaw variable_span limit at tree.lines)
     (goal_flaw limit hs (length tree.lines) goal_at tree.goal) a.1 in
     let small = small_of tree text right in
     let each_fits = many_fit definition names.definitions fits.1.1.0 in
@@ -332,7 +351,8 @@ text_within names fits right =
           (each_right (definition_fault ds) ds (is_closed tree text right));
       program = faultless_is_program (map (line_value variable_value) tree.lines) small.program
           (lines_universal variable_value tree.lines);
-      commands = lines_known names.version (numbers.program_variables names.lines) names.lines fits.1.1.1.0;
+      commands = lines_known names.version limit
+          (numbers.program_variables names.lines) names.lines fits.1.1.1.0 at b.0;
       goal = goal_within limit hs ds (numbers.universals names) (length tree.lines)
           goal_at names.goal fits.1.1.1.1 b.1 small.goal (is_known tree text right)
           (has_universal_antecedent tree text right) (length (program_value tree.lines)) (has_its_line tree text right);
@@ -343,23 +363,23 @@ text_within names fits right =
 
 -- what a numbered tree of a text says
 pub said_within : (tree : Problem) → IsOfText tree → problem_flaw tree ≡ None
-    → (most : ℕ) (ds : List DefinitionValue) (lines : List Command) (judgement : Judgement)
-    → most ≡ most_spatial tree.version → ds ≡ map (definition_value (headings tree.definitions)) tree.definitions
+    → (most : Limits) (ds : List DefinitionValue) (lines : List Command) (judgement : Judgement)
+    → most ≡ limits tree.version → ds ≡ map (definition_value (headings tree.definitions)) tree.definitions
     → lines ≡ program_value tree.lines → judgement ≡ goal_value (headings tree.definitions) tree.goal
     → IsProblemWithin tree.version most ds lines judgement
 said_within tree text right most ds lines judgement limit definitions program goal =
-    let Said = λ (t : Problem). IsProblemWithin t.version (most_spatial t.version)
+    let Said = λ (t : Problem). IsProblemWithin t.version (limits t.version)
     (map (definition_value (headings t.definitions)) t.definitions) (program_value t.lines)
     (goal_value (headings t.definitions) t.goal) in
     let said = subst (λ (t : Problem). problem_flaw t ≡ None → Said t) text.2 (text_within text.0 text.1) right in
     let read = map (definition_value (headings tree.definitions)) tree.definitions in
-    let with_goal = subst (λ (x : Judgement). IsProblemWithin tree.version (most_spatial tree.version) read
+    let with_goal = subst (λ (x : Judgement). IsProblemWithin tree.version (limits tree.version) read
     (program_value tree.lines) x) (sym goal) said in
-    let with_lines = subst (λ (x : List Command). IsProblemWithin tree.version (most_spatial tree.version)
+    let with_lines = subst (λ (x : List Command). IsProblemWithin tree.version (limits tree.version)
     read x judgement) (sym program) with_goal in
-    let with_definitions = subst (λ (x : List DefinitionValue). IsProblemWithin tree.version (most_spatial tree.version)
+    let with_definitions = subst (λ (x : List DefinitionValue). IsProblemWithin tree.version (limits tree.version)
     x lines judgement) (sym definitions) with_lines in
-    subst (λ (x : ℕ). IsProblemWithin tree.version x ds lines judgement) (sym limit) with_definitions
+    subst (λ (x : Limits). IsProblemWithin tree.version x ds lines judgement) (sym limit) with_definitions
 
 -- what a problem keeps
 pub problem_keeps : (p : ProblemValue) → IsProblemWithin p.version p.defs.most p.defs.list p.program p.goal

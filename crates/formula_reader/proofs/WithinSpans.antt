@@ -1,4 +1,5 @@
 -- A flaw stands at a token of the problem.
+use Rattle.cyc_basics.specs.declared.limits.Limits.{Limits}
 use Rattle.std.proofs.Common.{ℕ, ◌+◌, ◌≤◌, Bool, true, false, List, length, take, arith}
 use Rattle.std.specs.Prelude.{nat_eq, nat_lt, nat_le, is_some, ◌||◌}
 use Rattle.std.specs.List.{list_any}
@@ -6,7 +7,7 @@ use Rattle.std.specs.Str.{bytes_eq}
 use Rattle.cyc_lex.specs.declared.fault.What.TheVariants.{Arguments, Cases, Disjuncts, Predicates, ProgramVariables}
 use Rattle.cyc_lex.specs.declared.fault.What.TheVariants.{Variable, Locals}
 use Rattle.cyc_lex.specs.declared.fault.IllFault.TheVariants.{Parameter, Duplicate, NoLine}
-use Rattle.heap_syntax.specs.Versions.{most_spatial}
+use Rattle.heap_syntax.specs.Versions.{limits}
 use Rattle.heap_reader.specs.Trees.{Heading}
 use Rattle.heap_reader.specs.Spans.{heap_span}
 use Rattle.heap_reader.specs.Flaws.{ill_if, over_if, or_later, arity_in, heap_flaw, heaps_flaw}
@@ -41,32 +42,34 @@ term_before InGoal k (Universal n primed) = let s = two_tokens primed in
     over_before (nat_lt 65534 n) Variable k (k + name_span primed) (omega arith)
 term_before InGoal k (Existential n primed) = let s = two_tokens primed in
     over_before (nat_lt 65534 n) Variable k (k + name_span primed) (omega arith)
-term_before (InCase arity) k (Universal n primed) = let s = two_tokens primed in
+term_before (InCase arity locals) k (Universal n primed) = let s = two_tokens primed in
     ill_before (nat_le arity n) Parameter k (k + name_span primed) (omega arith)
-term_before (InCase arity) k (Existential n primed) = let s = two_tokens primed in
-    over_before (nat_lt 15 n) Locals k (k + name_span primed) (omega arith)
+term_before (InCase arity locals) k (Existential n primed) = let s = two_tokens primed in
+    over_before (nat_le locals n) Locals k (k + name_span primed) (omega arith)
 
 variable_before : (k v : ℕ) → Before (variable_flaw k v) (k + 2)
 variable_before k v = over_before (nat_lt 63 v) ProgramVariables k (k + 2) (omega arith)
 
 -- ---- definitions
 
-parameter_before : (ps : List (List ℕ)) (n k : ℕ) (s : List ℕ) → Before (parameter_flaw ps n k s) (k + 2)
-parameter_before ps n k s =
-    first_before (ill_if (list_any (bytes_eq s) (take n ps)) Duplicate k) (over_if (nat_le 8 n) Arguments k) (k + 2)
+parameter_before : (most : Limits) (ps : List (List ℕ)) (n k : ℕ) (s : List ℕ)
+    → Before (parameter_flaw most ps n k s) (k + 2)
+parameter_before most ps n k s =
+    first_before (ill_if (list_any (bytes_eq s) (take n ps)) Duplicate k) (over_if
+        (nat_le most.arguments n) Arguments k) (k + 2)
     (ill_before (list_any (bytes_eq s) (take n ps)) Duplicate k (k + 2) (omega arith))
-    (over_before (nat_le 8 n) Arguments k (k + 2) (omega arith))
+    (over_before (nat_le most.arguments n) Arguments k (k + 2) (omega arith))
 
-module _ (most : ℕ) (hs : List Heading) where
-  head_before : (n k : ℕ) (d : Definition) → Before (head_flaw hs n k d) (k + 3 + parameters_span d.parameters)
+module _ (most : Limits) (hs : List Heading) where
+  head_before : (n k : ℕ) (d : Definition) → Before (head_flaw most hs n k d) (k + 3 + parameters_span d.parameters)
   head_before n k d =
       let m = k + 3 + parameters_span d.parameters in
       let known = is_some (arity_in (take n hs) d.name) in
-      let ps = parameters_flaw (k + 3) d.parameters in
+      let ps = parameters_flaw most (k + 3) d.parameters in
       first_before (over_if (nat_le 4096 n) Predicates k) (or_later (ill_if known Duplicate (k + 1)) ps) m
       (over_before (nat_le 4096 n) Predicates k m (omega arith))
       (first_before (ill_if known Duplicate (k + 1)) ps m (ill_before known Duplicate (k + 1) m (omega arith))
-      (listed_or_before (parameter_flaw d.parameters) parameter_span 1 (parameter_before d.parameters) (k + 3)
+      (listed_or_before (parameter_flaw most d.parameters) parameter_span 1 (parameter_before most d.parameters) (k + 3)
       d.parameters))
 
   definition_before : (n k : ℕ) (d : Definition) → Before (definition_flaw most hs n k d) (k + definition_span d)
@@ -75,9 +78,11 @@ module _ (most : ℕ) (hs : List Heading) where
       let p = k + 3 + parameters_span d.parameters in
       let arity = length d.parameters in
       let cases = cases_flaw most hs arity (p + 1) d.cases in
-      first_before (head_flaw hs n k d) cases m (later (head_flaw hs n k d) p m (omega arith) (head_before n k d))
+      first_before (head_flaw most hs n k d) cases m (later (head_flaw most hs n k d) p m (omega arith)
+          (head_before n k d))
       (later cases (p + 1 + heaps_span d.cases) m (omega arith)
-      (heaps_before (term_flaw (InCase arity)) term_span some_span (term_before (InCase arity)) most hs Cases
+      (heaps_before (term_flaw (InCase arity most.locals)) term_span some_span (term_before (InCase arity most.locals))
+      most hs Cases
       (p + 1) d.cases))
 
   goal_before : (count k : ℕ) (g : Goal) → Before (goal_flaw most hs count k g) (k + goal_span g)
@@ -100,16 +105,16 @@ module _ (most : ℕ) (hs : List Heading) where
 
 pub problem_before : (p : Problem) → Before (problem_flaw p) (problem_span p)
 problem_before p =
-    let most = most_spatial p.version in
+    let most = limits p.version in
     let hs = headings p.definitions in
     let m = problem_span p in
     let at = 4 + definitions_span p.definitions in
     let goal_at = at + lines_span p.lines in
     let first = definitions_flaw most hs 4 p.definitions in
-    let second = lines_flaw variable_flaw variable_span at p.lines in
+    let second = lines_flaw variable_flaw variable_span most at p.lines in
     let third = goal_flaw most hs (length p.lines) goal_at p.goal in
     first_before first (or_later second third) m (later first at m (omega arith)
     (listed_before (definition_flaw most hs) definition_span (definition_before most hs) 0 4 p.definitions))
     (first_before second third m (later second goal_at m (omega arith)
-    (lines_before variable_flaw variable_span variable_before at p.lines))
+    (lines_before variable_flaw variable_span variable_before most at p.lines))
     (goal_before most hs (length p.lines) goal_at p.goal))

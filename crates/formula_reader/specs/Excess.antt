@@ -3,11 +3,12 @@ use Rattle.std.specs.Prelude.{ℕ, ◌+◌, Bool, true, not, ◌&&◌, ◌||◌,
 use Rattle.std.specs.Prelude.{length, take, Option, Some, None, is_none}
 use Rattle.std.specs.List.{list_all}
 use Rattle.std.specs.Option.{option_map, option_or}
-use Rattle.cyc_basics.specs.declared.limits.TheConstants.{MOST_ARGUMENTS, MOST_CASES, MOST_LOCALS}
+use Rattle.cyc_basics.specs.declared.limits.Limits.{Limits}
+use Rattle.cyc_basics.specs.declared.limits.TheConstants.{MOST_ARGUMENTS}
 use Rattle.heap_formula.specs.declared.atoms.Spatial.{Spatial}
 use Rattle.heap_formula.specs.declared.atoms.Spatial.TheVariants.{Cell, Pred}
 use Rattle.heap_formula.specs.declared.commands.Command.{Command}
-use Rattle.heap_formula.specs.declared.commands.Command.TheVariants.{IfAny}
+use Rattle.heap_formula.specs.declared.commands.Command.TheVariants.{IfAny, Load, New, Store}
 use Rattle.heap_formula.specs.declared.judgements.Judgement.{Judgement}
 use Rattle.heap_formula.specs.declared.judgements.Judgement.TheVariants.{Entail, Term as Runs}
 use Rattle.heap_formula.specs.Definitions.{Definition}
@@ -50,7 +51,7 @@ has_fields (Pred q ts) = true
 abbrev pub is_use : List Definition → Spatial → Bool
 is_use ds x = is_none (use_fault ds x)
 
-abbrev pub heap_excess : ℕ → List Definition → SymbolicHeap → Option HeapExcess
+abbrev pub heap_excess : Limits → List Definition → SymbolicHeap → Option HeapExcess
 heap_excess most ds a =
     if not (is_short most a) then Some Atoms
     else if not (has_numbers a) then Some Variable
@@ -60,54 +61,57 @@ heap_excess most ds a =
 
 -- ---- definitions
 
-abbrev pub case_excess : ℕ → List Definition → ℕ → SymbolicHeap → Option CaseExcess
+abbrev pub case_excess : Limits → List Definition → ℕ → SymbolicHeap → Option CaseExcess
 case_excess most ds arity c =
     option_or (option_map Heap (heap_excess most ds c)) (if nat_lt arity (heap_bound c) then Some Parameter
-    else if nat_lt MOST_LOCALS (heap_exists c) then Some Locals
+    else if nat_lt most.locals (heap_exists c) then Some Locals
     else None)
 
-abbrev pub case_at : ℕ → List Definition → ℕ → ℕ → SymbolicHeap → Option DefinitionExcess
+abbrev pub case_at : Limits → List Definition → ℕ → ℕ → SymbolicHeap → Option DefinitionExcess
 case_at most ds arity n c = option_map (Case n) (case_excess most ds arity c)
 
 -- n definitions stand before
-abbrev pub definition_excess : ℕ → List Definition → ℕ → Definition → Option DefinitionExcess
+abbrev pub definition_excess : Limits → List Definition → ℕ → Definition → Option DefinitionExcess
 definition_excess most ds n d =
     if not (is_free_name reserved d.name) then Some Name
     else if has_name (take n ds) d.name then Some Duplicate
-    else if nat_lt MOST_ARGUMENTS d.arity then Some Parameters
-    else if nat_eq (length d.cases) 0 || nat_lt MOST_CASES (length d.cases) then Some Cases
+    else if nat_lt most.arguments d.arity then Some Parameters
+    else if nat_eq (length d.cases) 0 || nat_lt most.cases (length d.cases) then Some Cases
     else first_of (case_at most ds d.arity) 0 d.cases
 
-abbrev pub definition_at : ℕ → List Definition → ℕ → Definition → Option ProblemExcess
+abbrev pub definition_at : Limits → List Definition → ℕ → Definition → Option ProblemExcess
 definition_at most ds n d = option_map (OfDefinition n) (definition_excess most ds n d)
 
-abbrev pub definitions_excess : ℕ → List Definition → Option ProblemExcess
+abbrev pub definitions_excess : Limits → List Definition → Option ProblemExcess
 definitions_excess most ds = first_of (definition_at most ds) 0 ds
 
 -- ---- lines
 
--- the version has the command
-abbrev pub is_command_of : Version → Command → Bool
-is_command_of version (IfAny j) = has_free_branches version
-is_command_of version c = true
+-- the version has the command, and cells may have the field, or as many
+abbrev pub is_command_of : Version → Limits → Command → Bool
+is_command_of version most (IfAny j) = has_free_branches version
+is_command_of version most (Load x t k) = nat_le k most.arguments
+is_command_of version most (Store t k u) = nat_le k most.arguments
+is_command_of version most (New x k) = nat_le k most.arguments
+is_command_of version most c = true
 
-abbrev pub line_at : Version → ℕ → Command → Option ProblemExcess
-line_at version n c = if is_command_of version c then None else Some (OfCommand (n + 1))
+abbrev pub line_at : Version → Limits → ℕ → Command → Option ProblemExcess
+line_at version most n c = if is_command_of version most c then None else Some (OfCommand (n + 1))
 
-abbrev pub lines_excess : Version → List Command → Option ProblemExcess
-lines_excess version cs = first_of (line_at version) 0 cs
+abbrev pub lines_excess : Version → Limits → List Command → Option ProblemExcess
+lines_excess version most cs = first_of (line_at version most) 0 cs
 
 -- ---- judgements
 
-abbrev pub antecedent_excess : ℕ → List Definition → SymbolicHeap → Option JudgementExcess
+abbrev pub antecedent_excess : Limits → List Definition → SymbolicHeap → Option JudgementExcess
 antecedent_excess most ds a =
     option_or (option_map Antecedent (heap_excess most ds a)) (if is_universal_heap a then None else Some Existential)
 
-abbrev pub disjunct_at : ℕ → List Definition → ℕ → SymbolicHeap → Option JudgementExcess
+abbrev pub disjunct_at : Limits → List Definition → ℕ → SymbolicHeap → Option JudgementExcess
 disjunct_at most ds n b = option_map (Disjunct n) (heap_excess most ds b)
 
 -- over so many lines
-abbrev pub judgement_excess : ℕ → List Definition → ℕ → Judgement → Option JudgementExcess
+abbrev pub judgement_excess : Limits → List Definition → ℕ → Judgement → Option JudgementExcess
 judgement_excess most ds count (Entail a bs) = option_or (antecedent_excess most ds a)
     (first_of (disjunct_at most ds) 0 bs)
 judgement_excess most ds count (Runs i a)
@@ -115,7 +119,7 @@ judgement_excess most ds count (Runs i a)
 
 -- ---- problems
 
-abbrev pub problem_excess : Version → ℕ → List Definition → List Command → Judgement → Option ProblemExcess
+abbrev pub problem_excess : Version → Limits → List Definition → List Command → Judgement → Option ProblemExcess
 problem_excess version most ds lines goal =
-    option_or (definitions_excess most ds) (option_or (lines_excess version lines)
+    option_or (definitions_excess most ds) (option_or (lines_excess version most lines)
     (option_map OfGoal (judgement_excess most ds (length lines) goal)))

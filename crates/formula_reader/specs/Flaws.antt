@@ -2,12 +2,12 @@
 use Rattle.std.specs.Prelude.{ℕ, ◌+◌, ◌||◌, nat_eq, nat_lt, nat_le, is_some, List, length, map, take, None}
 use Rattle.std.specs.List.{list_any}
 use Rattle.std.specs.Str.{bytes_eq}
-use Rattle.cyc_basics.specs.declared.limits.TheConstants.{GREATEST_LOCAL, GREATEST_PROGRAM_VARIABLE, GREATEST_VARIABLE}
-use Rattle.cyc_basics.specs.declared.limits.TheConstants.{MOST_ARGUMENTS, MOST_PREDICATES}
+use Rattle.cyc_basics.specs.declared.limits.Limits.{Limits}
+use Rattle.cyc_basics.specs.declared.limits.TheConstants.{GREATEST_PROGRAM_VARIABLE, GREATEST_VARIABLE, MOST_PREDICATES}
 use Rattle.cyc_lex.specs.declared.fault.IllFault.TheVariants.{Duplicate, Parameter, NoLine}
 use Rattle.cyc_lex.specs.declared.fault.What.TheVariants.{Predicates, Arguments, Cases, Locals, Disjuncts}
 use Rattle.cyc_lex.specs.declared.fault.What.TheVariants.{ProgramVariables, Variable}
-use Rattle.heap_syntax.specs.Versions.{most_spatial}
+use Rattle.heap_syntax.specs.Versions.{limits}
 use Rattle.heap_reader.specs.Trees.{Heading}
 use Rattle.heap_reader.specs.Spans.{heap_span}
 use Rattle.heap_reader.specs.Flaws.{Found, ill_if, over_if, or_later, listed_flaw, arity_in, heap_flaw, heaps_flaw}
@@ -29,14 +29,14 @@ headings ds = map heading ds
 
 -- ---- terms; each part begins at token k, and n members stand before it
 
--- a case has at most sixteen locals; that a parameter is below the arity, and that a number of the goal has sixteen
+-- a case has at most so many locals; that a parameter is below the arity, and that a number of the goal has sixteen
 -- bits, holds in each text whose other parts are within their limits
 abbrev pub term_flaw : Scope → ℕ → NumberedTerm → Found
 term_flaw scope k Nil = None
 term_flaw InGoal k (Universal n primed) = over_if (nat_lt GREATEST_VARIABLE n) Variable k
 term_flaw InGoal k (Existential n primed) = over_if (nat_lt GREATEST_VARIABLE n) Variable k
-term_flaw (InCase arity) k (Universal n primed) = ill_if (nat_le arity n) Parameter k
-term_flaw (InCase arity) k (Existential n primed) = over_if (nat_lt GREATEST_LOCAL n) Locals k
+term_flaw (InCase arity locals) k (Universal n primed) = ill_if (nat_le arity n) Parameter k
+term_flaw (InCase arity locals) k (Existential n primed) = over_if (nat_le locals n) Locals k
 
 -- a program has at most 64 variables
 abbrev pub variable_flaw : ℕ → ℕ → Found
@@ -44,38 +44,38 @@ variable_flaw k v = over_if (nat_lt GREATEST_PROGRAM_VARIABLE v) ProgramVariable
 
 -- ---- definitions
 
--- at most eight parameters, no two with one name
-abbrev pub parameter_flaw : List (List ℕ) → ℕ → ℕ → List ℕ → Found
-parameter_flaw ps n k s = or_later (ill_if (list_any (bytes_eq s) (take n ps)) Duplicate k)
-    (over_if (nat_le MOST_ARGUMENTS n) Arguments k)
+-- no more parameters than there may be, no two with one name
+abbrev pub parameter_flaw : Limits → List (List ℕ) → ℕ → ℕ → List ℕ → Found
+parameter_flaw most ps n k s = or_later (ill_if (list_any (bytes_eq s) (take n ps)) Duplicate k)
+    (over_if (nat_le most.arguments n) Arguments k)
 
-abbrev pub parameters_flaw : ℕ → List (List ℕ) → Found
-parameters_flaw k ps = listed_flaw (parameter_flaw ps) parameter_span 0 k ps
+abbrev pub parameters_flaw : Limits → ℕ → List (List ℕ) → Found
+parameters_flaw most k ps = listed_flaw (parameter_flaw most ps) parameter_span 0 k ps
 
 -- the name, which no definition before has, and the parameters
-abbrev pub head_flaw : List Heading → ℕ → ℕ → Definition → Found
-head_flaw hs n k d =
+abbrev pub head_flaw : Limits → List Heading → ℕ → ℕ → Definition → Found
+head_flaw most hs n k d =
     or_later (over_if (nat_le MOST_PREDICATES n) Predicates k)
     (or_later (ill_if (is_some (arity_in (take n hs) d.name)) Duplicate (k + 1))
-    (parameters_flaw (k + 3) d.parameters))
+    (parameters_flaw most (k + 3) d.parameters))
 
--- of heaps that have at most so many spatial atoms, by the file's version
-abbrev pub cases_flaw : ℕ → List Heading → ℕ → ℕ → List Heap → Found
-cases_flaw most hs arity k cases = heaps_flaw (term_flaw (InCase arity)) term_span most hs Cases k cases
+abbrev pub cases_flaw : Limits → List Heading → ℕ → ℕ → List Heap → Found
+cases_flaw most hs arity k cases = heaps_flaw (term_flaw (InCase arity most.locals)) term_span most hs Cases k cases
 
 -- at most 4,096, no two with one name
-abbrev pub definition_flaw : ℕ → List Heading → ℕ → ℕ → Definition → Found
+abbrev pub definition_flaw : Limits → List Heading → ℕ → ℕ → Definition → Found
 definition_flaw most hs n k d =
-    or_later (head_flaw hs n k d) (cases_flaw most hs (length d.parameters) (k + 3 + parameters_span d.parameters + 1)
+    or_later (head_flaw most hs n k d) (cases_flaw most hs (length d.parameters)
+        (k + 3 + parameters_span d.parameters + 1)
     d.cases)
 
-abbrev pub definitions_flaw : ℕ → List Heading → ℕ → List Definition → Found
+abbrev pub definitions_flaw : Limits → List Heading → ℕ → List Definition → Found
 definitions_flaw most hs k ds = listed_flaw (definition_flaw most hs) definition_span 0 k ds
 
 -- ---- goals
 
 -- the goal of a program with so many lines
-abbrev pub goal_flaw : ℕ → List Heading → ℕ → ℕ → Goal → Found
+abbrev pub goal_flaw : Limits → List Heading → ℕ → ℕ → Goal → Found
 goal_flaw most hs count k (Entailment h ds) =
     or_later (heap_flaw (term_flaw InGoal) term_span most hs (k + 1) h)
     (heaps_flaw (term_flaw InGoal) term_span most hs Disjuncts (k + 1 + heap_span term_span h) ds)
@@ -87,8 +87,8 @@ goal_flaw most hs count k (From n h) =
 
 abbrev pub problem_flaw : Problem → Found
 problem_flaw p =
-    let most = most_spatial p.version in
+    let most = limits p.version in
     let lines_at = 4 + definitions_span p.definitions in
     or_later (definitions_flaw most (headings p.definitions) 4 p.definitions)
-    (or_later (lines_flaw variable_flaw variable_span lines_at p.lines)
+    (or_later (lines_flaw variable_flaw variable_span most lines_at p.lines)
     (goal_flaw most (headings p.definitions) (length p.lines) (lines_at + lines_span p.lines) p.goal))

@@ -4,7 +4,7 @@ use Rattle.cyc_lex.specs.declared.fault.ReadFault.{ReadFault}
 use Rattle.cyc_lex.specs.Placed.{Placed}
 use Rattle.problem_syntax.specs.Grammar.{problem}
 use Rattle.problem_syntax.specs.Trees as named
-use Rattle.heap_syntax.specs.Versions.{most_spatial}
+use Rattle.heap_syntax.specs.Versions.{limits}
 use Rattle.heap_reader.specs.Reading as reading
 use Rattle.problem_syntax.specs.Numbered as numbers
 use Rattle.problem_syntax.specs.Numbering.{numbered}
@@ -16,7 +16,7 @@ use Rattle.formula_reader.specs.Values.{definition_value, goal_value}
 -- the problem that a numbered tree says
 pub record IsProblemOf (tree : numbers.Problem) (p : Problem) : Type 0 where
   pub version : p.version ≡ tree.version
-  pub most : p.defs.most ≡ most_spatial tree.version
+  pub most : p.defs.most ≡ limits tree.version
   pub definitions : p.defs.list ≡ map (definition_value (headings tree.definitions)) tree.definitions
   pub program : p.program ≡ program_value tree.lines
   pub goal : p.goal ≡ goal_value (headings tree.definitions) tree.goal

@@ -1,8 +1,9 @@
 -- What the values of a problem are within, in terms of the values alone: what is within has a text.
 use Rattle.std.specs.Prelude.{◌≡◌, ℕ, ◌≤◌, true, List, length, Some, slice_get}
+use Rattle.cyc_basics.specs.declared.limits.Limits.{Limits}
 use Rattle.cyc_basics.specs.declared.limits.TheConstants.{MOST_PREDICATES}
 use Rattle.heap_formula.specs.declared.commands.Command.{Command}
-use Rattle.heap_formula.specs.declared.commands.Command.TheVariants.{IfAny}
+use Rattle.heap_formula.specs.declared.commands.Command.TheVariants.{IfAny, Load, New, Store}
 use Rattle.heap_formula.specs.declared.judgements.Judgement.{Judgement}
 use Rattle.heap_formula.specs.Definitions.{Definition}
 use Rattle.heap_formula.specs.Words.{Each}
@@ -22,19 +23,22 @@ abbrev pub HaveOwnNames : List Definition → Type 0
 HaveOwnNames ds =
     (p q : ℕ) (d e : Definition) → slice_get ds p ≡ Some d → slice_get ds q ≡ Some e → d.name ≡ e.name → p ≡ q
 
--- the version has the command
-abbrev pub IsCommandOf : Version → Command → Type 0
-IsCommandOf version (IfAny j) = has_free_branches version ≡ true
-IsCommandOf version c = Unit {0}
+-- the version has the command, and cells may have the field, or as many
+abbrev pub IsCommandOf : Version → Limits → Command → Type 0
+IsCommandOf version most (IfAny j) = has_free_branches version ≡ true
+IsCommandOf version most (Load x t k) = k ≤ most.arguments
+IsCommandOf version most (Store t k u) = k ≤ most.arguments
+IsCommandOf version most (New x k) = k ≤ most.arguments
+IsCommandOf version most c = Unit {0}
 
--- the definitions, the program and the goal are within the limits of a file whose heaps have at most so many spatial
--- atoms, the version has the program's commands, and each predicate has a free name of its own
-pub record IsProblemWithin (version : Version) (most : ℕ) (ds : List Definition) (lines : List Command)
+-- the definitions, the program and the goal are within these limits, the version has the program's commands, and each
+-- predicate has a free name of its own
+pub record IsProblemWithin (version : Version) (most : Limits) (ds : List Definition) (lines : List Command)
     (judgement : Judgement) : Type 0 where
   pub few : length ds ≤ MOST_PREDICATES
   pub definitions : Each (IsDefinitionWithin most ds) ds
   pub free : HaveFreeNames ds
   pub own : HaveOwnNames ds
   pub program : IsProgram lines
-  pub commands : Each (IsCommandOf version) lines
+  pub commands : Each (IsCommandOf version most) lines
   pub goal : IsJudgementWithin most ds (length lines) judgement

@@ -9,6 +9,7 @@ ghost use Rattle.formula_reader.specs.Flaws.{headings, goal_flaw, problem_flaw a
 
 use crate::terms::{Scope, Variables};
 use crate::walk::definitions;
+use cyc_basics::limits::Limits;
 use cyc_lex::{IllFault, What};
 use heap_reader::lines::walk_lines;
 use heap_reader::{Flaw, Heads, ill, walk_heap, walk_heaps};
@@ -16,7 +17,7 @@ use problem_syntax::numbering::{NumberedGoal, NumberedHeap, NumberedProblem};
 
 fn entailment(
     heads: &Heads<'_>,
-    most: u8,
+    most: Limits,
     count: usize,
     at: usize,
     antecedent: &NumberedHeap<'_>,
@@ -33,7 +34,7 @@ fn entailment(
 
 fn state(
     heads: &Heads<'_>,
-    most: u8,
+    most: Limits,
     count: usize,
     at: usize,
     line: u32,
@@ -49,10 +50,10 @@ fn state(
     walk_heap(heads, &Scope::Goal, most, at + 4, heap)
 }
 
-/// The goal of a program with so many lines; a heap has at most `most` spatial atoms.
+/// The goal of a program with so many lines.
 fn goal(
     heads: &Heads<'_>,
-    most: u8,
+    most: Limits,
     count: usize,
     at: usize,
     tree: &NumberedGoal<'_>,
@@ -73,9 +74,9 @@ fn walk(heads: &Heads<'_>, tree: &NumberedProblem<'_>) -> Result<usize, Flaw>
     requires fits { problem_span (problem_of tree.now) < 2 ^ 64 }
     ensures { IsWalk result (first_flaw (problem_of tree.now)) (problem_span (problem_of tree.now)) }
 {
-    let most = tree.version.most_spatial();
+    let most = tree.version.limits();
     let lines = definitions(heads, most, 4, &tree.definitions)?;
-    let at = walk_lines(&Variables, lines, &tree.lines)?;
+    let at = walk_lines(&Variables, most, lines, &tree.lines)?;
     goal(heads, most, tree.lines.len(), at, &tree.goal)
 }
 

@@ -4,7 +4,7 @@ ghost use Rattle.std.specs.Prelude.{◌≡◌, ◌↔◌, None, Some, true, leng
 ghost use Rattle.std.specs.List.{list_all};
 ghost use Rattle.heap_formula.specs.Judgements.{antecedent};
 ghost use Rattle.pred_defs.specs.Faults.{closed_fault};
-ghost use Rattle.heap_syntax.specs.Versions.{most_spatial};
+ghost use Rattle.heap_syntax.specs.Versions.{limits};
 ghost use Rattle.heap_reader.specs.Small.{is_short_heap};
 ghost use Rattle.formula_reader.specs.Within.{IsProblemWithin};
 ghost use Rattle.formula_reader.specs.Problems.{goal_heaps, goal_fault, has_line};
@@ -25,11 +25,11 @@ pub struct Problem {
     pub defs: Defs,
     pub program: Program,
     pub goal: Judgement,
-    pub ghost limit: { defs.most ≡ most_spatial version },
+    pub ghost limit: { defs.most ≡ limits version },
     pub ghost within: { ∥ IsProblemWithin version defs.most defs.list program goal ∥₁ },
     pub ghost closed: { closed_fault defs.list ≡ None },
     pub ghost known: { goal_fault defs.list goal ≡ None },
     pub ghost universal: { is_universal_heap (antecedent goal) ≡ true },
-    pub ghost short: { list_all (is_short_heap (most_spatial version)) (goal_heaps goal) ≡ true },
+    pub ghost short: { list_all (is_short_heap (limits version)) (goal_heaps goal) ≡ true },
     pub ghost line: { has_line (length program) goal ≡ true },
 }

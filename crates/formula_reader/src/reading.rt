@@ -42,7 +42,7 @@ fn problem_of_tree(
     let goal = goal(alloc, heads, &tree.goal)?;
     Ok(Problem {
         version: tree.version,
-        defs: Defs::from_vec(alloc, tree.version.most_spatial(), definitions),
+        defs: Defs::from_vec(alloc, tree.version.limits(), definitions),
         program,
         goal,
     })

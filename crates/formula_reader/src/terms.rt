@@ -5,18 +5,19 @@ ghost use Rattle.cyc_lex.specs.declared.fault.What.TheVariants.{Variable};
 ghost use Rattle.heap_reader.specs.Flaws.{over_if, IsWalk};
 ghost use Rattle.formula_reader.specs.Spans.{name_span};
 
-use cyc_basics::limits::{GREATEST_LOCAL, GREATEST_PROGRAM_VARIABLE, GREATEST_VARIABLE};
+use cyc_basics::limits::{GREATEST_PROGRAM_VARIABLE, GREATEST_VARIABLE};
 use cyc_lex::{IllFault, What};
 use heap_formula::Term;
 use heap_reader::lines::VariableReader;
 use heap_reader::{Flaw, TermReader, ill, over};
 use problem_syntax::numbering::NumberedTerm;
 
-/// Where a term stands: in the goal, or in a case of a predicate with so many parameters.
+/// Where a term stands: in the goal, or in a case of a predicate with so many parameters, which may have so many local
+/// variables.
 #[derive(Clone, Copy)]
 pub enum Scope {
     Goal,
-    Case(usize),
+    Case { arity: usize, locals: u32 },
 }
 
 /// The token after a variable and the one that follows it.
@@ -55,14 +56,14 @@ impl TermReader for Scope {
             (_, NumberedTerm::Nil) => Ok(at + 2),
             (Scope::Goal, NumberedTerm::Universal(n, primed)) => goal_number(at, n, primed),
             (Scope::Goal, NumberedTerm::Existential(n, primed)) => goal_number(at, n, primed),
-            (Scope::Case(arity), NumberedTerm::Universal(n, primed)) => {
+            (Scope::Case { arity, .. }, NumberedTerm::Universal(n, primed)) => {
                 if n >= arity {
                     return Err(ill(IllFault::Parameter, at));
                 }
                 Ok(behind(at, primed))
             }
-            (Scope::Case(_), NumberedTerm::Existential(n, primed)) => {
-                if n > GREATEST_LOCAL as usize {
+            (Scope::Case { locals, .. }, NumberedTerm::Existential(n, primed)) => {
+                if n >= locals as usize {
                     return Err(over(What::Locals, at));
                 }
                 Ok(behind(at, primed))

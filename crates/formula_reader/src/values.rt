@@ -7,7 +7,7 @@ ghost use Rattle.formula_reader.specs.Small.{IsSmallDefinition, IsSmallGoal};
 ghost use Rattle.formula_reader.specs.Values.{definition_value as value_of_definition, goal_value};
 
 use crate::terms::Scope;
-use cyc_basics::limits::MOST_PREDICATES;
+use cyc_basics::limits::{MOST_LOCALS, MOST_PREDICATES};
 use cyc_basics::memory::OutOfMemory;
 use heap_formula::{Def, Judgement};
 use heap_reader::{Heads, definition_value, entailment_value, heap_value};
@@ -24,7 +24,10 @@ fn definition(
     ensures { IfOk result (λ d. d ≡ value_of_definition heads.now (definition_of tree.now)) }
 {
     let arity = tree.parameters.len();
-    let scope = Scope::Case(arity);
+    let scope = Scope::Case {
+        arity,
+        locals: MOST_LOCALS,
+    };
     definition_value(alloc, heads, &scope, tree.name, arity as u32, &tree.cases)
 }
 

@@ -14,7 +14,7 @@ ghost use Rattle.formula_reader.specs.Flaws.{parameter_flaw, parameters_flaw, he
 ghost use Rattle.formula_reader.specs.Flaws.{definitions_flaw};
 
 use crate::terms::Scope;
-use cyc_basics::limits::{MOST_ARGUMENTS, MOST_PREDICATES};
+use cyc_basics::limits::{Limits, MOST_PREDICATES};
 use cyc_lex::{IllFault, What};
 use heap_reader::{Flaw, Heads, ill, over, walk_heaps};
 use problem_syntax::numbering::NumberedDefinition;
@@ -39,54 +39,61 @@ fn is_before(texts: &[&str], n: usize, text: &str) -> bool
     is_among(&texts[..n], text)
 }
 
-fn parameter(parameters: &[&str], n: usize, at: usize, text: &str) -> Result<usize, Flaw>
+fn parameter(
+    most: Limits,
+    parameters: &[&str],
+    n: usize,
+    at: usize,
+    text: &str,
+) -> Result<usize, Flaw>
     requires there { n ≤ length parameters.now }
     requires fits { at + 2 < 2 ^ 64 }
-    ensures { IsWalk result (parameter_flaw (map text_of parameters.now) n at text.now) (at + 2) }
+    ensures { IsWalk result (parameter_flaw most (map text_of parameters.now) n at text.now) (at + 2) }
 {
     if is_before(parameters, n, text) {
         return Err(ill(IllFault::Duplicate, at));
     }
-    if n >= MOST_ARGUMENTS {
+    if n >= most.arguments as usize {
         return Err(over(What::Arguments, at));
     }
     Ok(at + 2)
 }
 
-fn some_parameters(parameters: &[&str], at: usize) -> Result<usize, Flaw>
+fn some_parameters(most: Limits, parameters: &[&str], at: usize) -> Result<usize, Flaw>
     requires { at + total parameter_span (map text_of parameters.now) < 2 ^ 64 }
-    ensures { IsWalk result (parameters_flaw at (map text_of parameters.now))
+    ensures { IsWalk result (parameters_flaw most at (map text_of parameters.now))
         (at + total parameter_span (map text_of parameters.now)) }
 {
     let mut next = at;
     for (n, text) in parameters.iter().enumerate() {
-        next = parameter(parameters, n, next, text)?;
+        next = parameter(most, parameters, n, next, text)?;
     }
     Ok(next)
 }
 
 /// The parameters of a predicate and the parenthesis after them.
-fn parameters(parameters: &[&str], at: usize) -> Result<usize, Flaw>
+fn parameters(most: Limits, parameters: &[&str], at: usize) -> Result<usize, Flaw>
     requires { at + parameters_span (map text_of parameters.now) < 2 ^ 64 }
-    ensures { IsWalk result (parameters_flaw at (map text_of parameters.now))
+    ensures { IsWalk result (parameters_flaw most at (map text_of parameters.now))
         (at + parameters_span (map text_of parameters.now)) }
 {
     match parameters {
         [] => Ok(at + 1),
-        _ => some_parameters(parameters, at),
+        _ => some_parameters(most, parameters, at),
     }
 }
 
 /// The word, the name and the parameters of a definition, and the brace after them.
 fn definition_head(
     heads: &Heads<'_>,
+    most: Limits,
     n: usize,
     at: usize,
     tree: &NumberedDefinition<'_>,
 ) -> Result<usize, Flaw>
     requires there { n ≤ length heads.now }
     requires fits { at + definition_span (definition_of tree.now) < 2 ^ 64 }
-    ensures { IsWalk result (head_flaw heads.now n at (definition_of tree.now))
+    ensures { IsWalk result (head_flaw most heads.now n at (definition_of tree.now))
         (at + 3 + parameters_span (definition_of tree.now).parameters + 1) }
 {
     if n >= MOST_PREDICATES {
@@ -95,13 +102,13 @@ fn definition_head(
     if heads.has_among(n, tree.name) {
         return Err(ill(IllFault::Duplicate, at + 1));
     }
-    let behind = parameters(&tree.parameters, at + 3)?;
+    let behind = parameters(most, &tree.parameters, at + 3)?;
     Ok(behind + 1)
 }
 
 fn definition(
     heads: &Heads<'_>,
-    most: u8,
+    most: Limits,
     n: usize,
     at: usize,
     tree: &NumberedDefinition<'_>,
@@ -111,17 +118,20 @@ fn definition(
     ensures { IsWalk result (definition_flaw most heads.now n at (definition_of tree.now))
         (at + definition_span (definition_of tree.now)) }
 {
-    let first = definition_head(heads, n, at, tree)?;
-    let scope = Scope::Case(tree.parameters.len());
+    let first = definition_head(heads, most, n, at, tree)?;
+    let scope = Scope::Case {
+        arity: tree.parameters.len(),
+        locals: most.locals,
+    };
     let behind = walk_heaps(heads, &scope, most, What::Cases, first, &tree.cases)?;
     Ok(behind + 1)
 }
 
-/// Goes over definitions, the first of which begins at a token, and gives the token after them. A heap has at most
-/// `most` spatial atoms.
+/// Goes over definitions, the first of which begins at a token, and gives the token after them. `most` are the
+/// limits of the version.
 pub fn definitions(
     heads: &Heads<'_>,
-    most: u8,
+    most: Limits,
     at: usize,
     trees: &[NumberedDefinition<'_>],
 ) -> Result<usize, Flaw>

@@ -85,8 +85,10 @@ fn satisfied_at(
     let mut left = most;
     let mut questions = IndexSet::new(alloc);
     let mut asked = Vec::new(alloc);
+    let most = defs.most();
     ground_ranged(
         alloc,
+        most,
         cells,
         places,
         range,

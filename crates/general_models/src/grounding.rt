@@ -7,11 +7,13 @@ ghost use Rattle.model_check.specs.MaskParts.{Covers};
 ghost use Rattle.model_check.specs.Grounding.{Extends};
 ghost use Rattle.general_models.specs.Ranges.{IsWithin};
 ghost use Rattle.general_models.specs.RangedGrounding.{GroundedStacks, GroundedOver, GroundsOver};
+ghost use Rattle.cyc_basics.specs.Limits.{AreLimits};
 ghost use Rattle.cyc_basics.specs.Words.{IsMember};
 
 use crate::faults::CheckFault;
 use crate::opening::{open_locals, opened};
 use crate::stacks::{front, with_values};
+use cyc_basics::limits::Limits;
 use cyc_basics::memory::OutOfMemory;
 use goto_lang::{Cells, Stack};
 use heap_formula::{Heap, bound_of_heap};
@@ -67,6 +69,7 @@ fn spend(left: &mut u64, values: usize, count: usize) -> Result<(), CheckFault> 
 /// Adds the rules of a case whose locals of these numbers become parameters, each with all values of the range.
 fn ground_opened(
     alloc: Global,
+    most: Limits,
     cells: &Cells,
     places: &IndexSet<u64>,
     range: &[u64],
@@ -77,6 +80,7 @@ fn ground_opened(
     case: &Heap,
     chosen: &[u16],
 ) -> Result<(), CheckFault>
+    requires limits { AreLimits most }
     requires covers { Covers places.now.keys cells.now }
     ensures { OnOk result (GroundedOver range.now cells.now places.now.keys questions.old.keys questions.new.keys
         rules.old.items rules.new.items head values.now (case.now ∷ [])) }
@@ -85,7 +89,7 @@ fn ground_opened(
     if first as usize + chosen.len() > 65536 {
         return Err(CheckFault::TooMuch);
     }
-    let opened = opened(case, first, chosen)?;
+    let opened = opened(case, first, chosen, most)?;
     if !is_constructive(alloc, &opened)? {
         return Err(CheckFault::TooMuch);
     }
@@ -100,6 +104,7 @@ fn ground_opened(
 /// Adds the rules of a case at given values of its parameters.
 pub fn ground_ranged(
     alloc: Global,
+    most: Limits,
     cells: &Cells,
     places: &IndexSet<u64>,
     range: &[u64],
@@ -110,6 +115,7 @@ pub fn ground_ranged(
     values: &[u64],
     case: &Heap,
 ) -> Result<(), CheckFault>
+    requires limits { AreLimits most }
     requires covers { Covers places.now.keys cells.now }
     ensures { OnOk result (GroundedOver range.now cells.now places.now.keys questions.old.keys questions.new.keys
         rules.old.items rules.new.items head values.now (case.now ∷ [])) }
@@ -117,13 +123,14 @@ pub fn ground_ranged(
     let chosen = open_locals(alloc, case)?;
     spend(left, range.len(), chosen.len())?;
     ground_opened(
-        alloc, cells, places, range, questions, rules, head, values, case, &chosen,
+        alloc, most, cells, places, range, questions, rules, head, values, case, &chosen,
     )
 }
 
 /// Adds the rules of these cases.
 fn ground_cases(
     alloc: Global,
+    most: Limits,
     cells: &Cells,
     places: &IndexSet<u64>,
     range: &[u64],
@@ -134,13 +141,14 @@ fn ground_cases(
     values: &[u64],
     cases: &[Heap],
 ) -> Result<(), CheckFault>
+    requires limits { AreLimits most }
     requires covers { Covers places.now.keys cells.now }
     ensures { OnOk result (GroundedOver range.now cells.now places.now.keys questions.old.keys questions.new.keys
         rules.old.items rules.new.items head values.now cases.now) }
 {
     for case in cases {
         ground_ranged(
-            alloc, cells, places, range, left, questions, rules, head, values, case,
+            alloc, most, cells, places, range, left, questions, rules, head, values, case,
         )?;
     }
     Ok(())
@@ -164,12 +172,14 @@ pub fn ground_all(
     ensures grounds { OnOk result (GroundsOver range.now defs.now.list cells.now places.now.keys
         questions.new.keys rules.new.items) }
 {
+    let most = defs.most();
     for head in 0..usize::MAX {
         let Some(question) = copied_question(questions, head)? else {
             return Ok(());
         };
         ground_cases(
             alloc,
+            most,
             cells,
             places,
             range,

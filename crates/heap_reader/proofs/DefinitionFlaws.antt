@@ -1,6 +1,7 @@
 -- The first flaw of what is kept of definitions is the first flaw of the definitions, and without a flaw all is kept.
 use Rattle.std.proofs.Common.{◌≡◌, ℕ, ◌+◌, ◌≤◌, List, [], ◌∷◌, None, refl, ap}
 use Rattle.std.specs.Prelude.{map}
+use Rattle.cyc_basics.specs.declared.limits.Limits.{Limits}
 use Rattle.cyc_lex.specs.declared.fault.What.TheVariants.{Cases}
 use Rattle.heap_syntax.specs.declared.keep.Keep.TheVariants.{Beyond}
 use Rattle.heap_syntax.specs.DefinitionKeeping.{definition_front}
@@ -13,21 +14,24 @@ use Rattle.heap_reader.specs.declared.definitions.scope.Scope.TheVariants.{Case 
 use Rattle.heap_reader.specs.DefinitionSpans.{term_span, definition_span}
 use Rattle.heap_reader.specs.DefinitionFlaws.{term_flaw, heading, headings, head_flaw, definition_flaw}
 
-module _ (most : ℕ) (m : ℕ) (pures_within : 64 ≤ m) (spatials_within : most ≤ m) (heaps_within : 16 ≤ m)
-    (hs : List Heading) where
+module _ (most : Limits) (m : ℕ) (pures_within : most.pure ≤ m) (spatials_within : most.spatial ≤ m)
+    (cases_within : most.cases ≤ m) (hs : List Heading) where
   definition_same : (n k : ℕ) (d : Definition) → definition_flaw most hs n k (definition_front (Beyond m) d)
       ≡ definition_flaw most hs n k d
-  definition_same n k d = ap (λ o. or_later (head_flaw hs n k d) o)
-      (fronts_flaw (term_flaw (InCase d.arity)) term_span most hs m pures_within spatials_within Cases heaps_within
+  definition_same n k d = ap (λ o. or_later (head_flaw most hs n k d) o)
+      (fronts_flaw (term_flaw (InCase d.arity most.locals)) term_span most hs m pures_within spatials_within Cases
+      cases_within
       (k + 6) d.cases)
 
   definition_whole : (n k : ℕ) (d : Definition) → definition_flaw most hs n k d ≡ None
       → definition_front (Beyond m) d ≡ d
   definition_whole n k d e =
-      let both = neither (head_flaw hs n k d) (heaps_flaw (term_flaw (InCase d.arity)) term_span most hs Cases (k + 6)
+      let both = neither (head_flaw most hs n k d) (heaps_flaw (term_flaw (InCase d.arity most.locals)) term_span most
+      hs Cases (k + 6)
       d.cases) e in
       ap (λ (cases : List Heap). record { name = d.name; arity = d.arity; cases = cases })
-      (fronts_whole (term_flaw (InCase d.arity)) term_span most hs m pures_within spatials_within Cases heaps_within
+      (fronts_whole (term_flaw (InCase d.arity most.locals)) term_span most hs m pures_within spatials_within Cases
+      cases_within
       (k + 6) d.cases both.1)
 
   pub definitions_flaw : (n k : ℕ) (ds : List Definition)

@@ -3,8 +3,8 @@
 use Rattle.std.proofs.Common.{◌≡◌, ℕ, zero, suc, ◌+◌, ◌<◌, ◌≤◌, List, [], ◌∷◌, take, Some, None, refl, ap, ◌∙◌, arith}
 use Rattle.std.specs.Prelude.{map, nat_le}
 use Rattle.std.proofs.lemmas.List.{take_all}
+use Rattle.cyc_basics.specs.declared.limits.Limits.{Limits}
 use Rattle.cyc_lex.specs.declared.fault.What.{What}
-use Rattle.cyc_lex.specs.declared.fault.What.TheVariants.{Pure}
 use Rattle.heap_syntax.specs.declared.keep.Keep.TheVariants.{Beyond}
 use Rattle.heap_syntax.specs.declared.tree.PureTree.{PureTree}
 use Rattle.heap_syntax.specs.Keeping.{members, heap_front, heaps_front}
@@ -12,9 +12,9 @@ use Rattle.heap_syntax.specs.Trees.{Spatial, Heap}
 use Rattle.heap_reader.specs.Trees.{Heading}
 use Rattle.heap_reader.specs.Spans.{pure_span, pures_span, spatial_span, heap_span}
 use Rattle.heap_reader.specs.Flaws.{Found, over_if, or_later, listed_flaw, pure_flaw, spatial_flaw, heap_flaw}
-use Rattle.heap_reader.specs.Flaws.{counted_flaw, heaps_flaw}
+use Rattle.heap_reader.specs.Flaws.{heap_limit, counted_flaw, heaps_flaw}
 use Rattle.heap_reader.proofs.NoFlaw.{neither, not_over, below, few_all}
-use Rattle.heap_reader.proofs.Fitting.{spatial_few}
+use Rattle.heap_reader.proofs.Fitting.{pure_few, spatial_few}
 
 -- ---- lists whose members from some number on have a flaw
 
@@ -68,14 +68,10 @@ module _ {X : Type 0} (flaw : ℕ → ℕ → X → Found) (span : X → ℕ) (f
 
 -- ---- heaps
 
-module _ {T : Type 0} (flaw : ℕ → T → Found) (span : T → ℕ) (most : ℕ) (hs : List Heading) (m : ℕ)
-    (pures_within : 64 ≤ m) (spatials_within : most ≤ m) where
-  pure_few : (n k : ℕ) (x : PureTree T) → pure_flaw flaw span n k x ≡ None → n < 64
-  pure_few n k x e = below 64 n (not_over _ Pure k (neither (over_if (nat_le 64 n) Pure k)
-      (or_later (flaw k x.left) (flaw (k + span x.left) x.right)) e).0)
-
+module _ {T : Type 0} (flaw : ℕ → T → Found) (span : T → ℕ) (most : Limits) (hs : List Heading) (m : ℕ)
+    (pures_within : most.pure ≤ m) (spatials_within : most.spatial ≤ m) where
   abbrev pures_found : ℕ → List (PureTree T) → Found
-  pures_found k xs = listed_flaw (pure_flaw flaw span) (pure_span span) 0 k xs
+  pures_found k xs = listed_flaw (pure_flaw flaw span most) (pure_span span) 0 k xs
 
   abbrev spatials_found : ℕ → List (Spatial T) → Found
   spatials_found k xs = listed_flaw (spatial_flaw flaw span most hs) (spatial_span span) 0 k xs
@@ -86,41 +82,51 @@ module _ {T : Type 0} (flaw : ℕ → T → Found) (span : T → ℕ) (most : �
     where
       by : (o : Found) → pures_found k h.pure ≡ o → heap_flaw flaw span most hs k (heap_front (Beyond m) h)
           ≡ heap_flaw flaw span most hs k h
-      by (Some f) e = rw (members_flaw (pure_flaw flaw span) (pure_span span) 64 pure_few k m h.pure pures_within, e)
+      by (Some f) e = rw (
+        members_flaw (pure_flaw flaw span most) (pure_span span) most.pure
+            (pure_few flaw span most hs) k m h.pure pures_within,
+        e,
+      )
           refl
       by None e =
-          rw (members_whole (pure_flaw flaw span) (pure_span span) 64 pure_few k m h.pure pures_within e)
+          rw (members_whole (pure_flaw flaw span most) (pure_span span) most.pure (pure_few flaw span most hs) k m
+          h.pure pures_within e)
           (ap (λ o. or_later (pures_found k h.pure) o)
-          (members_flaw (spatial_flaw flaw span most hs) (spatial_span span) most (spatial_few flaw span most hs)
+          (members_flaw (spatial_flaw flaw span most hs) (spatial_span span) most.spatial
+          (spatial_few flaw span most hs)
           (k + pures_span span h.pure) m h.spatial spatials_within))
 
   pub front_whole : (k : ℕ) (h : Heap T) → heap_flaw flaw span most hs k h ≡ None → heap_front (Beyond m) h ≡ h
   front_whole k h e =
       let both = neither (pures_found k h.pure) (spatials_found (k + pures_span span h.pure) h.spatial) e in
       rw (
-        members_whole (pure_flaw flaw span) (pure_span span) 64 pure_few k m h.pure pures_within both.0,
-        members_whole (spatial_flaw flaw span most hs) (spatial_span span) most (spatial_few flaw span most hs)
+        members_whole (pure_flaw flaw span most) (pure_span span) most.pure (pure_few flaw span most hs) k m h.pure
+            pures_within both.0,
+        members_whole (spatial_flaw flaw span most hs) (spatial_span span) most.spatial (spatial_few flaw span most hs)
             (k + pures_span span h.pure) m h.spatial spatials_within both.1,
       ) refl
 
-  module _ (what : What) (heaps_within : 16 ≤ m) where
-    counted_few : (n k : ℕ) (h : Heap T) → counted_flaw flaw span most hs what n k h ≡ None → n < 16
-    counted_few n k h e = below 16 n (not_over _ what k (neither (over_if (nat_le 16 n) what k)
+  module _ (what : What) (heaps_within : heap_limit most what ≤ m) where
+    counted_few : (n k : ℕ) (h : Heap T) → counted_flaw flaw span most hs what n k h ≡ None
+        → n < heap_limit most what
+    counted_few n k h e = below (heap_limit most what) n (not_over _ what k
+        (neither (over_if (nat_le (heap_limit most what) n) what k)
         (heap_flaw flaw span most hs k h) e).0)
 
     counted_same : (n k : ℕ) (h : Heap T) → counted_flaw flaw span most hs what n k (heap_front (Beyond m) h)
         ≡ counted_flaw flaw span most hs what n k h
-    counted_same n k h = ap (λ o. or_later (over_if (nat_le 16 n) what k) o) (front_flaw k h)
+    counted_same n k h = ap (λ o. or_later (over_if (nat_le (heap_limit most what) n) what k) o) (front_flaw k h)
 
     counted_whole : (n k : ℕ) (h : Heap T) → counted_flaw flaw span most hs what n k h ≡ None
         → heap_front (Beyond m) h ≡ h
-    counted_whole n k h e = front_whole k h (neither (over_if (nat_le 16 n) what k) (heap_flaw flaw span most hs k h)
+    counted_whole n k h e = front_whole k h (neither (over_if (nat_le (heap_limit most what) n) what k)
+        (heap_flaw flaw span most hs k h)
         e).1
 
     pub fronts_flaw : (k : ℕ) (heaps : List (Heap T))
         → heaps_flaw flaw span most hs what k (heaps_front (Beyond m) heaps) ≡ heaps_flaw flaw span most hs what k heaps
     fronts_flaw k heaps =
-        members_flaw (counted_flaw flaw span most hs what) (heap_span span) 16 counted_few k m
+        members_flaw (counted_flaw flaw span most hs what) (heap_span span) (heap_limit most what) counted_few k m
         (map (heap_front (Beyond m)) heaps) heaps_within
         ∙ mapped_flaw (counted_flaw flaw span most hs what) (heap_span span) (heap_front (Beyond m))
         counted_same counted_whole 0 k heaps
@@ -130,7 +136,7 @@ module _ {T : Type 0} (flaw : ℕ → T → Found) (span : T → ℕ) (most : �
     fronts_whole k heaps e =
         let mapped = mapped_flaw (counted_flaw flaw span most hs what) (heap_span span) (heap_front (Beyond m))
         counted_same counted_whole 0 k heaps in
-        members_whole (counted_flaw flaw span most hs what) (heap_span span) 16 counted_few k m
+        members_whole (counted_flaw flaw span most hs what) (heap_span span) (heap_limit most what) counted_few k m
         (map (heap_front (Beyond m)) heaps) heaps_within (mapped ∙ e)
         ∙ mapped_whole (counted_flaw flaw span most hs what) (heap_span span) (heap_front (Beyond m))
         counted_same counted_whole 0 k heaps e

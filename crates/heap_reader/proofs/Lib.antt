@@ -22,6 +22,7 @@ pub mod DefinitionFrontSpans
 pub mod Programs
 pub mod LineWithinSpans
 pub mod LineSpanLaws
+pub mod LineWider
 mod Stable
 mod DefinitionLaw
 mod Parts

@@ -5,6 +5,9 @@ use Rattle.std.specs.Prelude.{map, not, ◌&&◌, ◌||◌, nat_eq, nat_lt, nat_
 use Rattle.std.specs.Option.{option_or}
 use Rattle.std.proofs.lemmas.Bool.{ltb-false, le-ltb}
 use Rattle.std.proofs.lemmas.List.{length-map}
+use Rattle.cyc_basics.specs.Limits.{AreLimits}
+use Rattle.cyc_basics.specs.declared.limits.Limits.{Limits}
+use Rattle.cyc_basics.specs.declared.limits.TheConstants.{MOST_ARGUMENTS}
 use Rattle.heap_formula.specs.declared.terms.Term.{Term}
 use Rattle.heap_formula.specs.declared.terms.Term.TheVariants as terms
 use Rattle.heap_formula.specs.declared.commands.Command.{Command}
@@ -56,7 +59,7 @@ both_none : {X : Type 0} (a b : Option X) → a ≡ None → b ≡ None → opti
 both_none None b p q = q
 both_none (Some x) b p q = absurd cc
 
-or_right : (a b : Bool) → (a || b) ≡ false → b ≡ false
+pub or_right : (a b : Bool) → (a || b) ≡ false → b ≡ false
 or_right true b e = absurd cc
 or_right false b e = e
 
@@ -143,8 +146,21 @@ lines_small n i (l ∷ ls) u e =
 
 -- ---- lines without a flaw are a program
 
-field_passes : (k n : ℕ) → field_flaw k n ≡ None → field_fault n ≡ None
-field_passes k n e = unless (nat_eq n 0 || nat_lt 8 n) _ (not_over (nat_eq n 0 || nat_lt 8 n) Fields k e)
+pub or_left : (a b : Bool) → (a || b) ≡ false → a ≡ false
+or_left true b e = absurd cc
+or_left false b e = refl
+
+pub neither_true : (a b : Bool) → a ≡ false → b ≡ false → (a || b) ≡ false
+neither_true true b e f = absurd cc
+neither_true false b e f = f
+
+field_passes : (most : Limits) → AreLimits most → (k n : ℕ) → field_flaw most k n ≡ None → field_fault n ≡ None
+field_passes most limits k n e =
+    let within = not_over (nat_eq n 0 || nat_lt most.arguments n) Fields k e in
+    let few = ltb-false most.arguments n (or_right (nat_eq n 0) (nat_lt most.arguments n) within) in
+    unless (nat_eq n 0 || nat_lt MOST_ARGUMENTS n) _ (neither_true (nat_eq n 0) (nat_lt MOST_ARGUMENTS n)
+    (or_left (nat_eq n 0) (nat_lt most.arguments n) within)
+    (le-ltb MOST_ARGUMENTS n (omega (arith, few, limits.arguments))))
 
 jump_passes : (count i k n : ℕ) → jump_flaw count k n ≡ None → jump_fault count i n ≡ None
 jump_passes count i k n e = unless (nat_eq n 0 || nat_lt count n) _ (not_ill (nat_eq n 0 || nat_lt count n) Jump k e)
@@ -153,27 +169,28 @@ variable_passes : (x : ℕ) → x < 64 → variable_fault x ≡ None
 variable_passes x h = unless (nat_lt 63 x) _ (le-ltb 63 x (omega arith))
 
 module _ {V : Type 0} (flaw : ℕ → V → Found) (span : V → ℕ) (value : V → ℕ)
-    (few : (k : ℕ) (v : V) → flaw k v ≡ None → value v < 64) where
+    (few : (k : ℕ) (v : V) → flaw k v ≡ None → value v < 64) (most : Limits) (limits : AreLimits most) where
   operand_passes : (k : ℕ) (t : OperandTree V) → operand_flaw flaw span k t ≡ None
       → term_fault (operand_value value t) ≡ None
   operand_passes k Nil e = refl
   operand_passes k (Variable v) e = variable_passes (value v) (few k v e)
 
-  change_passes : (count i k x : ℕ) (c : ChangeTree V) → x < 64 → change_flaw flaw span k c ≡ None
+  change_passes : (count i k x : ℕ) (c : ChangeTree V) → x < 64 → change_flaw flaw span most k c ≡ None
       → command_fault count i (change_value value x c) ≡ None
   change_passes count i k x (New n) h e = both_none (variable_fault x) (field_fault n) (variable_passes x h)
-      (field_passes (k + 1) n e)
+      (field_passes most limits (k + 1) n e)
   change_passes count i k x (Assign t) h e = both_none (variable_fault x) (term_fault (operand_value value t))
       (variable_passes x h) (operand_passes k t e)
   change_passes count i k x (Load t n) h e =
-      let a = neither (operand_flaw flaw span k t) (field_flaw (k + operand_span span t) n) e in
+      let a = neither (operand_flaw flaw span k t) (field_flaw most (k + operand_span span t) n) e in
       both_none (variable_fault x) (option_or (term_fault (operand_value value t)) (field_fault n))
       (variable_passes x h) (both_none (term_fault (operand_value value t)) (field_fault n) (operand_passes k t a.0)
-      (field_passes (k + operand_span span t) n a.1))
+      (field_passes most limits (k + operand_span span t) n a.1))
   change_passes count i k x (Store n t) h e =
-      let a = neither (field_flaw k n) (operand_flaw flaw span (k + 2) t) e in
+      let a = neither (field_flaw most k n) (operand_flaw flaw span (k + 2) t) e in
       both_none (variable_fault x) (option_or (field_fault n) (term_fault (operand_value value t)))
-      (variable_passes x h) (both_none (field_fault n) (term_fault (operand_value value t)) (field_passes k n a.0)
+      (variable_passes x h) (both_none (field_fault n) (term_fault (operand_value value t))
+      (field_passes most limits k n a.0)
       (operand_passes (k + 2) t a.1))
 
   branch_passes : (count i k : ℕ) (t u : OperandTree V) (n : ℕ) → branch_flaw flaw span count k t u n ≡ None
@@ -189,7 +206,7 @@ module _ {V : Type 0} (flaw : ℕ → V → Found) (span : V → ℕ) (value : V
       (both_none (term_fault (operand_value value u)) (jump_fault count i n) (operand_passes j u b.0)
       (jump_passes count i (j + operand_span span u) n b.1))
 
-  command_passes : (count i k : ℕ) (c : CommandTree V) → command_flaw flaw span count k c ≡ None
+  command_passes : (count i k : ℕ) (c : CommandTree V) → command_flaw flaw span most count k c ≡ None
       → command_fault count i (command_value value c) ≡ None
   command_passes count i k Stop e = refl
   command_passes count i k (IfAny n) e = jump_passes count i (k + 3) n e
@@ -198,11 +215,11 @@ module _ {V : Type 0} (flaw : ℕ → V → Found) (span : V → ℕ) (value : V
   command_passes count i k (If t true u n) e = branch_passes count i (k + 1) t u n e
   command_passes count i k (If t false u n) e = branch_passes count i (k + 1) t u n e
   command_passes count i k (StoreAtNil n t) e =
-      let a = neither (field_flaw (k + 2) n) (operand_flaw flaw span (k + 4) t) e in
-      both_none (field_fault n) (term_fault (operand_value value t)) (field_passes (k + 2) n a.0)
+      let a = neither (field_flaw most (k + 2) n) (operand_flaw flaw span (k + 4) t) e in
+      both_none (field_fault n) (term_fault (operand_value value t)) (field_passes most limits (k + 2) n a.0)
       (operand_passes (k + 4) t a.1)
   command_passes count i k (Change v c) e =
-      let a = neither (flaw k v) (change_flaw flaw span (k + span v) c) e in
+      let a = neither (flaw k v) (change_flaw flaw span most (k + span v) c) e in
       change_passes count i (k + span v) (value v) c (few k v a.0) a.1
 
   change_goes_on : (x : ℕ) (c : ChangeTree V) → may_go_on (change_value value x c) ≡ true
@@ -221,12 +238,12 @@ module _ {V : Type 0} (flaw : ℕ → V → Found) (span : V → ℕ) (value : V
   same_goes_on (StoreAtNil n t) = refl
   same_goes_on (Change v c) = change_goes_on (value v) c
 
-  line_passes : (count n k : ℕ) (l : LineTree V) → line_flaw flaw span count n k l ≡ None
+  line_passes : (count n k : ℕ) (l : LineTree V) → line_flaw flaw span most count n k l ≡ None
       → line_fault count (suc n) (line_value value l) ≡ None
   line_passes count n k l e =
       let ends = nat_eq (suc n) count in
       let a = neither (line_head_flaw count n k l.number (goes_on l.command))
-      (command_flaw flaw span count (k + 3) l.command) e in
+      (command_flaw flaw span most count (k + 3) l.command) e in
       let b = neither (ill_if (ends && goes_on l.command) FallsOff k)
       (or_later (over_if (nat_le 4096 n) Lines k) (ill_if (not (nat_eq l.number (suc n))) Numbering (k + 1))) a.0 in
       let c = neither (over_if (nat_le 4096 n) Lines k) (ill_if (not (nat_eq l.number (suc n))) Numbering (k + 1)) b.1
@@ -240,19 +257,19 @@ module _ {V : Type 0} (flaw : ℕ → V → Found) (span : V → ℕ) (value : V
       (command_passes count (suc n) (k + 3) l.command a.1)))
 
   all_pass : (count n k : ℕ) (ls : List (LineTree V))
-      → listed_flaw (line_flaw flaw span count) (line_span span) n k ls ≡ None
+      → listed_flaw (line_flaw flaw span most count) (line_span span) n k ls ≡ None
       → lines_fault count (suc n) (map (line_value value) ls) ≡ None
   all_pass count n k [] e = refl
   all_pass count n k (l ∷ ls) e =
-      let a = neither (line_flaw flaw span count n k l)
-      (listed_flaw (line_flaw flaw span count) (line_span span) (suc n) (k + line_span span l) ls) e in
+      let a = neither (line_flaw flaw span most count n k l)
+      (listed_flaw (line_flaw flaw span most count) (line_span span) (suc n) (k + line_span span l) ls) e in
       let next : suc (suc n) ≡ suc n + 1 = omega arith in
       both_none (line_fault count (suc n) (line_value value l))
       (lines_fault count (suc n + 1) (map (line_value value) ls)) (line_passes count n k l a.0)
       (subst (λ (i : ℕ). lines_fault count i (map (line_value value) ls) ≡ None) next
       (all_pass count (suc n) (k + line_span span l) ls a.1))
 
-  pub lines_are_program : (k : ℕ) (ls : List (LineTree V)) → lines_flaw flaw span k ls ≡ None
+  pub lines_are_program : (k : ℕ) (ls : List (LineTree V)) → lines_flaw flaw span most k ls ≡ None
       → program_fault (map (line_value value) ls) ≡ None
   lines_are_program k ls e = subst (λ (n : ℕ). lines_fault n 1 (map (line_value value) ls) ≡ None)
       (sym (length-map ls (line_value value))) (all_pass (length ls) 0 k ls e)

@@ -3,6 +3,7 @@ use Rattle.std.proofs.Common.{◌≡◌, ◌⊎◌, inl, inr, ℕ, zero, suc, �
 use Rattle.std.proofs.Common.{length, take, Some, None, refl, sym, ap, ◌∙◌, arith}
 use Rattle.std.specs.Prelude.{if◌then◌else◌, is_some, nat_le, nat_lt}
 use Rattle.std.specs.Str.{bytes_eq}
+use Rattle.cyc_basics.specs.declared.limits.Limits.{Limits}
 use Rattle.cyc_lex.specs.declared.fault.What.{What}
 use Rattle.cyc_lex.specs.declared.fault.What.TheVariants.{Spatial as SpatialAtoms, Cases, Predicates, Arguments}
 use Rattle.cyc_lex.specs.declared.fault.IllFault.TheVariants.{Duplicate}
@@ -10,7 +11,7 @@ use Rattle.heap_reader.specs.declared.flaw.Flaw.{Flaw}
 use Rattle.heap_reader.specs.Trees.{Heading}
 use Rattle.heap_reader.specs.Spans.{pure_span, pures_span, spatial_span, heap_span}
 use Rattle.heap_reader.specs.Flaws.{Found, ill_if, over_if, or_later, listed_flaw, arguments_flaw, pure_flaw, arity_in}
-use Rattle.heap_reader.specs.Flaws.{use_flaw, spatial_flaw, heap_flaw, counted_flaw, heaps_flaw}
+use Rattle.heap_reader.specs.Flaws.{use_flaw, spatial_flaw, heap_flaw, heap_limit, counted_flaw, heaps_flaw}
 use Rattle.heap_syntax.specs.Trees.{Spatial, Cell, Predicate, Heap}
 use Rattle.heap_syntax.specs.DefinitionTrees.{Definition}
 use Rattle.heap_reader.specs.declared.definitions.scope.Scope.TheVariants.{Case as InCase}
@@ -54,19 +55,19 @@ use_stable (h ∷ hs) more name n k = by_first (bytes_eq h.name name) (use_stabl
     by_first true s = inl refl
     by_first false s = s
 
-module _ {T : Type 0} (flaw : ℕ → T → Found) (span : T → ℕ) (most : ℕ) (hs more : List Heading) where
+module _ {T : Type 0} (flaw : ℕ → T → Found) (span : T → ℕ) (most : Limits) (hs more : List Heading) where
   spatial_stable : (n k : ℕ) (x : Spatial T) → Stable (spatial_flaw flaw span most hs n k x)
       (spatial_flaw flaw span most (hs ++ more) n k x)
   spatial_stable n k (Cell t ts) = inl refl
   spatial_stable n k (Predicate name ts) =
-      let rest = or_later (over_if (nat_le most n) SpatialAtoms k) (arguments_flaw flaw span (k + 2) ts) in
+      let rest = or_later (over_if (nat_le most.spatial n) SpatialAtoms k) (arguments_flaw flaw span most (k + 2) ts) in
       both (use_flaw (arity_in hs name) (length ts) k) (use_flaw (arity_in (hs ++ more) name) (length ts) k) rest rest
       (use_stable hs more name (length ts) k) (inl refl)
 
   pub heap_stable : (k : ℕ) (h : Heap T) → Stable (heap_flaw flaw span most hs k h)
       (heap_flaw flaw span most (hs ++ more) k h)
   heap_stable k h =
-      later (listed_flaw (pure_flaw flaw span) (pure_span span) 0 k h.pure) _ _
+      later (listed_flaw (pure_flaw flaw span most) (pure_span span) 0 k h.pure) _ _
       (listed_stable (spatial_flaw flaw span most hs) (spatial_flaw flaw span most (hs ++ more)) (spatial_span span)
       spatial_stable 0 (k + pures_span span h.pure) h.spatial)
 
@@ -74,7 +75,8 @@ module _ {T : Type 0} (flaw : ℕ → T → Found) (span : T → ℕ) (most : �
       → Stable (heaps_flaw flaw span most hs what k heaps) (heaps_flaw flaw span most (hs ++ more) what k heaps)
   heaps_stable what k heaps =
       listed_stable (counted_flaw flaw span most hs what) (counted_flaw flaw span most (hs ++ more) what)
-      (heap_span span) (λ n j h. later (over_if (nat_le 16 n) what j) _ _ (heap_stable j h)) 0 k heaps
+      (heap_span span) (λ n j h. later (over_if (nat_le (heap_limit most what) n) what j) _ _ (heap_stable j h)) 0 k
+      heaps
 
 -- a flaw that is none stays none, and one of another kind stays
 pub stays_none : (a b : Found) → a ≡ None → Stable a b → b ≡ None
@@ -95,13 +97,13 @@ front_kept hs more zero le = refl
 front_kept [] more (suc n) le = absurd (omega arith)
 front_kept (h ∷ hs) more (suc n) le = ap (λ (xs : List Heading). h ∷ xs) (front_kept hs more n (omega arith))
 
-pub definition_stable : (most : ℕ) (hs more : List Heading) (n k : ℕ) (d : Definition) → n ≤ length hs
+pub definition_stable : (most : Limits) (hs more : List Heading) (n k : ℕ) (d : Definition) → n ≤ length hs
     → Stable (definition_flaw most hs n k d) (definition_flaw most (hs ++ more) n k d)
 definition_stable most hs more n k d le =
-    both (head_flaw hs n k d) (head_flaw (hs ++ more) n k d)
-    (heaps_flaw (term_flaw (InCase d.arity)) term_span most hs Cases (k + 6) d.cases)
-    (heaps_flaw (term_flaw (InCase d.arity)) term_span most (hs ++ more) Cases (k + 6) d.cases)
+    both (head_flaw most hs n k d) (head_flaw most (hs ++ more) n k d)
+    (heaps_flaw (term_flaw (InCase d.arity most.locals)) term_span most hs Cases (k + 6) d.cases)
+    (heaps_flaw (term_flaw (InCase d.arity most.locals)) term_span most (hs ++ more) Cases (k + 6) d.cases)
     (inl (ap (λ (front : List Heading). or_later (over_if (nat_le 4096 n) Predicates k)
     (or_later (ill_if (is_some (arity_in front d.name)) Duplicate (k + 1))
-    (over_if (nat_lt 8 d.arity) Arguments (k + 3)))) (sym (front_kept hs more n le))))
-    (heaps_stable (term_flaw (InCase d.arity)) term_span most hs more Cases (k + 6) d.cases)
+    (over_if (nat_lt most.arguments d.arity) Arguments (k + 3)))) (sym (front_kept hs more n le))))
+    (heaps_stable (term_flaw (InCase d.arity most.locals)) term_span most hs more Cases (k + 6) d.cases)

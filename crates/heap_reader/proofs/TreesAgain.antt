@@ -3,6 +3,7 @@ use Rattle.std.proofs.Common.{◌≡◌, ℕ, suc, ◌+◌, Bool, true, false, L
 use Rattle.std.specs.Prelude.{nat_le, if◌then◌else◌}
 use Rattle.std.specs.Str.{bytes_eq}
 use Rattle.std.proofs.lemmas.Slice.Eq.{bytes_eq-Decides}
+use Rattle.cyc_basics.specs.declared.limits.Limits.{Limits}
 use Rattle.cyc_lex.specs.declared.fault.What.{What}
 use Rattle.cyc_lex.specs.declared.fault.What.TheVariants.{Spatial as SpatialAtoms, Cases}
 use Rattle.heap_formula.specs.declared.atoms.Pure.TheVariants.{Eq, Neq}
@@ -13,7 +14,7 @@ use Rattle.heap_syntax.specs.DefinitionTrees.{PureTree, Spatial, Cell, Predicate
 use Rattle.heap_reader.specs.Trees.{Heading}
 use Rattle.heap_reader.specs.Spans.{pure_span, pures_span, spatial_span, heap_span}
 use Rattle.heap_reader.specs.Flaws.{Found, over_if, or_later, listed_flaw, arguments_flaw, pure_flaw, arity_in}
-use Rattle.heap_reader.specs.Flaws.{use_flaw, spatial_flaw, heap_flaw, counted_flaw, heaps_flaw}
+use Rattle.heap_reader.specs.Flaws.{use_flaw, spatial_flaw, heap_flaw, heap_limit, counted_flaw, heaps_flaw}
 use Rattle.heap_reader.specs.Values.{pure_value, place_of, spatial_value, heap_value}
 use Rattle.heap_reader.proofs.NoFlaw.{neither}
 use Rattle.heap_reader.specs.declared.definitions.scope.Scope.{Scope}
@@ -75,7 +76,7 @@ found_name hs (d ∷ ds) name n k e =
 
 -- ---- heaps and definitions
 
-module _ (most : ℕ) (hs : List Heading) (vs : List DefinitionValue)
+module _ (most : Limits) (hs : List Heading) (vs : List DefinitionValue)
     (named : (name : List ℕ) (n k : ℕ) → use_flaw (arity_in hs name) n k ≡ None → name_of vs (place_of hs name) ≡ name)
   where
     spatial_again : (scope : Scope) (n k : ℕ) (x : Spatial)
@@ -84,7 +85,8 @@ module _ (most : ℕ) (hs : List Heading) (vs : List DefinitionValue)
     spatial_again scope n k (Cell t ts) e = λ i. Cell (term_again t i) (terms_again ts i)
     spatial_again scope n k (Predicate name ts) e =
         let used = neither (use_flaw (arity_in hs name) (length ts) k)
-        (or_later (over_if (nat_le most n) SpatialAtoms k) (arguments_flaw (term_flaw scope) term_span (k + 2) ts)) e
+        (or_later (over_if (nat_le most.spatial n) SpatialAtoms k) (arguments_flaw (term_flaw scope) term_span most
+        (k + 2) ts)) e
         in
         let same = named name (length ts) k used.0 in
         λ i. Predicate (same i) (terms_again ts i)
@@ -92,7 +94,7 @@ module _ (most : ℕ) (hs : List Heading) (vs : List DefinitionValue)
     pub heap_again : (scope : Scope) (k : ℕ) (h : Heap) → heap_flaw (term_flaw scope) term_span most hs k h ≡ None
         → heap_tree vs (heap_value term_value hs h) ≡ h
     heap_again scope k h e =
-        let both = neither (listed_flaw (pure_flaw (term_flaw scope) term_span) (pure_span term_span) 0 k h.pure)
+        let both = neither (listed_flaw (pure_flaw (term_flaw scope) term_span most) (pure_span term_span) 0 k h.pure)
         (listed_flaw (spatial_flaw (term_flaw scope) term_span most hs) (spatial_span term_span) 0
         (k + pures_span term_span h.pure) h.spatial) e in
         let pure = map_back (pure_value term_value) pure_tree pure_again h.pure in
@@ -107,13 +109,14 @@ module _ (most : ℕ) (hs : List Heading) (vs : List DefinitionValue)
     heaps_again scope what k heaps e =
         listed_again (counted_flaw (term_flaw scope) term_span most hs what) (heap_span term_span)
         (heap_value term_value hs) (heap_tree vs) (λ n j h g.
-        heap_again scope j h (neither (over_if (nat_le 16 n) what j)
+        heap_again scope j h (neither (over_if (nat_le (heap_limit most what) n) what j)
         (heap_flaw (term_flaw scope) term_span most hs j h) g).1) 0 k heaps e
 
     pub definition_again : (n k : ℕ) (d : Definition) → definition_flaw most hs n k d ≡ None
         → definition_tree vs (definition_value hs d) ≡ d
     definition_again n k d e =
-        let both = neither (head_flaw hs n k d) (heaps_flaw (term_flaw (InCase d.arity)) term_span most hs Cases (k + 6)
+        let both = neither (head_flaw most hs n k d) (heaps_flaw (term_flaw (InCase d.arity most.locals)) term_span most
+        hs Cases (k + 6)
         d.cases) e in
-        let cases = heaps_again (InCase d.arity) Cases (k + 6) d.cases both.1 in
+        let cases = heaps_again (InCase d.arity most.locals) Cases (k + 6) d.cases both.1 in
         λ i. record { name = d.name; arity = d.arity; cases = cases i }

@@ -14,6 +14,7 @@ use Rattle.heap_formula.specs.declared.atoms.Spatial.TheVariants as atoms
 use Rattle.heap_formula.specs.Definitions.{Definition as DefinitionValue}
 use Rattle.heap_formula.specs.Symbolic.{SymbolicHeap}
 use Rattle.heap_formula.specs.Words.{Each}
+use Rattle.cyc_basics.specs.declared.limits.Limits.{Limits}
 use Rattle.cyc_lex.specs.Word.{is_name_text, is_identifier}
 use Rattle.cyc_lex.proofs.BoolParts.{and-parts}
 use Rattle.cyc_lex.specs.declared.fault.What.TheVariants.{Predicates, Arguments, Cases}
@@ -52,16 +53,17 @@ each_known tree value Q one (x ∷ xs) e =
 
 -- ---- names
 
-no_earlier : (most : ℕ) (hs : List Heading) (n k : ℕ) (d : Definition) → definition_flaw most hs n k d ≡ None
+no_earlier : (most : Limits) (hs : List Heading) (n k : ℕ) (d : Definition) → definition_flaw most hs n k d ≡ None
     → arity_in (take n hs) d.name ≡ None
 no_earlier most hs n k d e =
-    let all = neither (head_flaw hs n k d) (heaps_flaw (term_flaw (InCase d.arity)) term_span most hs Cases (k + 6)
+    let all = neither (head_flaw most hs n k d) (heaps_flaw (term_flaw (InCase d.arity most.locals)) term_span most hs
+    Cases (k + 6)
     d.cases) e in
     let head = neither (over_if (nat_le 4096 n) Predicates k)
     (or_later (ill_if (is_some (arity_in (take n hs) d.name)) Duplicate (k + 1))
-    (over_if (nat_lt 8 d.arity) Arguments (k + 3))) all.0 in
+    (over_if (nat_lt most.arguments d.arity) Arguments (k + 3))) all.0 in
     let taken = neither (ill_if (is_some (arity_in (take n hs) d.name)) Duplicate (k + 1))
-    (over_if (nat_lt 8 d.arity) Arguments (k + 3)) head.1 in
+    (over_if (nat_lt most.arguments d.arity) Arguments (k + 3)) head.1 in
     not_some (arity_in (take n hs) d.name) (not_ill _ Duplicate (k + 1) taken.0)
 
 -- the empty text is no name
@@ -85,7 +87,7 @@ abbrev heads_of : List DefinitionValue → List Heading
 heads_of ds = headings (trees_of ds)
 
 -- the name of a number has that place
-pub found_place : (most : ℕ) (ds : List DefinitionValue)
+pub found_place : (most : Limits) (ds : List DefinitionValue)
     → listed_flaw (definition_flaw most (heads_of ds)) definition_span 0 4 (trees_of ds) ≡ None → (p : ℕ)
     → is_free_name reserved (name_of ds p) ≡ true → place_of (heads_of ds) (name_of ds p) ≡ p
 found_place most ds none p free =

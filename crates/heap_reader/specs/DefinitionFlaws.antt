@@ -1,7 +1,7 @@
 -- The first flaw of terms and of definitions: what is ill-formed or passes a limit, and at which token.
 use Rattle.std.specs.Prelude.{ℕ, ◌+◌, nat_lt, nat_le, is_some, List, map, take, None}
-use Rattle.cyc_basics.specs.declared.limits.TheConstants.{GREATEST_LOCAL, GREATEST_VARIABLE, MOST_ARGUMENTS}
-use Rattle.cyc_basics.specs.declared.limits.TheConstants.{MOST_PREDICATES}
+use Rattle.cyc_basics.specs.declared.limits.Limits.{Limits}
+use Rattle.cyc_basics.specs.declared.limits.TheConstants.{GREATEST_VARIABLE, MOST_PREDICATES}
 use Rattle.cyc_lex.specs.declared.fault.IllFault.TheVariants.{Duplicate, Parameter}
 use Rattle.cyc_lex.specs.declared.fault.What.TheVariants.{Predicates, Arguments, Cases, Locals, Variable}
 use Rattle.heap_reader.specs.Trees.{Heading}
@@ -22,24 +22,25 @@ headings ds = map heading ds
 
 -- ---- each part begins at token k, and n members stand before it
 
--- outside cases a number is at most 65,534; in a case $n is a parameter and ?n one of sixteen locals
+-- outside cases a number is at most 65,534; in a case $n is a parameter and ?n one of so many locals
 abbrev pub term_flaw : Scope → ℕ → TermTree → Found
 term_flaw scope k Nil = None
 term_flaw Outside k (Univ n) = over_if (nat_lt GREATEST_VARIABLE n) Variable (k + 1)
 term_flaw Outside k (Exist n) = over_if (nat_lt GREATEST_VARIABLE n) Variable (k + 1)
-term_flaw (InCase arity) k (Univ n) = ill_if (nat_le arity n) Parameter (k + 1)
-term_flaw (InCase arity) k (Exist n) = over_if (nat_lt GREATEST_LOCAL n) Locals (k + 1)
+term_flaw (InCase arity locals) k (Univ n) = ill_if (nat_le arity n) Parameter (k + 1)
+term_flaw (InCase arity locals) k (Exist n) = over_if (nat_le locals n) Locals (k + 1)
 
--- ---- a heap has at most so many spatial atoms
+-- ---- within what the version allows
 
 -- the name, which no definition before has, and the arity
-abbrev pub head_flaw : List Heading → ℕ → ℕ → Definition → Found
-head_flaw hs n k d =
+abbrev pub head_flaw : Limits → List Heading → ℕ → ℕ → Definition → Found
+head_flaw most hs n k d =
     or_later (over_if (nat_le MOST_PREDICATES n) Predicates k)
     (or_later (ill_if (is_some (arity_in (take n hs) d.name)) Duplicate (k + 1))
-    (over_if (nat_lt MOST_ARGUMENTS d.arity) Arguments (k + 3)))
+    (over_if (nat_lt most.arguments d.arity) Arguments (k + 3)))
 
 -- at most 4,096, no two with one name
-abbrev pub definition_flaw : ℕ → List Heading → ℕ → ℕ → Definition → Found
+abbrev pub definition_flaw : Limits → List Heading → ℕ → ℕ → Definition → Found
 definition_flaw most hs n k d =
-    or_later (head_flaw hs n k d) (heaps_flaw (term_flaw (InCase d.arity)) term_span most hs Cases (k + 6) d.cases)
+    or_later (head_flaw most hs n k d)
+    (heaps_flaw (term_flaw (InCase d.arity most.locals)) term_span most hs Cases (k + 6) d.cases)

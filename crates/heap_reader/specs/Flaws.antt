@@ -2,11 +2,12 @@
 use Rattle.std.specs.Prelude.{◌≡◌, ℕ, suc, ◌+◌, Bool, true, false, not, nat_eq, nat_le, if◌then◌else◌, List, [], ◌∷◌}
 use Rattle.std.specs.Prelude.{length, Option, Some, None, Result, Ok, Err}
 use Rattle.std.specs.Str.{bytes_eq}
-use Rattle.cyc_basics.specs.declared.limits.TheConstants.{MOST_ARGUMENTS, MOST_DISJUNCTS, MOST_PURE}
+use Rattle.cyc_basics.specs.declared.limits.Limits.{Limits}
+use Rattle.cyc_basics.specs.declared.limits.TheConstants.{MOST_DISJUNCTS}
 use Rattle.cyc_lex.specs.declared.fault.IllFault.{IllFault}
 use Rattle.cyc_lex.specs.declared.fault.IllFault.TheVariants.{Unknown, Arity}
 use Rattle.cyc_lex.specs.declared.fault.What.{What}
-use Rattle.cyc_lex.specs.declared.fault.What.TheVariants.{Arguments, Pure, Spatial as SpatialAtoms}
+use Rattle.cyc_lex.specs.declared.fault.What.TheVariants.{Arguments, Cases, Pure, Spatial as SpatialAtoms}
 use Rattle.heap_syntax.specs.declared.tree.PureTree.{PureTree}
 use Rattle.heap_syntax.specs.Trees.{Spatial, Cell, Predicate, Heap}
 use Rattle.heap_reader.specs.declared.flaw.Item.TheVariants.{Ill, Over}
@@ -48,43 +49,44 @@ abbrev pub use_flaw : Option ℕ → ℕ → ℕ → Found
 use_flaw None n k = ill_if true Unknown k
 use_flaw (Some arity) n k = ill_if (not (nat_eq n arity)) Arity k
 
--- ---- heaps, over the flaw and the span of a term; each part begins at token k, and n members stand before it
+-- how many heaps may stand together
+abbrev pub heap_limit : Limits → What → ℕ
+heap_limit most Cases = most.cases
+heap_limit most what = MOST_DISJUNCTS
 
-module _ {T : Type 0} (flaw : ℕ → T → Found) (span : T → ℕ) where
-  -- at most eight
+-- ---- heaps, over the flaw and the span of a term and what the version allows; each part begins at token k, and n
+-- ---- members stand before it
+
+module _ {T : Type 0} (flaw : ℕ → T → Found) (span : T → ℕ) (most : Limits) where
   abbrev pub argument_flaw : ℕ → ℕ → T → Found
-  argument_flaw n k t = or_later (over_if (nat_le MOST_ARGUMENTS n) Arguments k) (flaw k t)
+  argument_flaw n k t = or_later (over_if (nat_le most.arguments n) Arguments k) (flaw k t)
 
   abbrev pub arguments_flaw : ℕ → List T → Found
   arguments_flaw k ts = listed_flaw argument_flaw span 0 k ts
 
-  -- at most 64
   abbrev pub pure_flaw : ℕ → ℕ → PureTree T → Found
-  pure_flaw n k x = or_later (over_if (nat_le MOST_PURE n) Pure k)
+  pure_flaw n k x = or_later (over_if (nat_le most.pure n) Pure k)
       (or_later (flaw k x.left) (flaw (k + span x.left) x.right))
 
-  -- a cell of a heap that has at most so many spatial atoms
-  abbrev pub cell_flaw : ℕ → ℕ → ℕ → T → List T → Found
-  cell_flaw most n k t ts = or_later (over_if (nat_le most n) SpatialAtoms k)
+  abbrev pub cell_flaw : ℕ → ℕ → T → List T → Found
+  cell_flaw n k t ts = or_later (over_if (nat_le most.spatial n) SpatialAtoms k)
       (or_later (flaw k t) (arguments_flaw (k + span t + 1) ts))
 
-  -- heaps that have at most so many spatial atoms
-  module _ (most : ℕ) (hs : List Heading) where
+  module _ (hs : List Heading) where
     -- the name's flaws stand at the same token as the limit's, and go first
     abbrev pub spatial_flaw : ℕ → ℕ → Spatial T → Found
-    spatial_flaw n k (Cell t ts) = cell_flaw most n k t ts
+    spatial_flaw n k (Cell t ts) = cell_flaw n k t ts
     spatial_flaw n k (Predicate name ts) =
         or_later (use_flaw (arity_in hs name) (length ts) k)
-        (or_later (over_if (nat_le most n) SpatialAtoms k) (arguments_flaw (k + 2) ts))
+        (or_later (over_if (nat_le most.spatial n) SpatialAtoms k) (arguments_flaw (k + 2) ts))
 
     abbrev pub heap_flaw : ℕ → Heap T → Found
     heap_flaw k h =
         or_later (listed_flaw pure_flaw (pure_span span) 0 k h.pure)
         (listed_flaw spatial_flaw (spatial_span span) 0 (k + pures_span span h.pure) h.spatial)
 
-    -- at most sixteen of what is counted
     abbrev pub counted_flaw : What → ℕ → ℕ → Heap T → Found
-    counted_flaw what n k h = or_later (over_if (nat_le MOST_DISJUNCTS n) what k) (heap_flaw k h)
+    counted_flaw what n k h = or_later (over_if (nat_le (heap_limit most what) n) what k) (heap_flaw k h)
 
     abbrev pub heaps_flaw : What → ℕ → List (Heap T) → Found
     heaps_flaw what k heaps = listed_flaw (counted_flaw what) (heap_span span) 0 k heaps

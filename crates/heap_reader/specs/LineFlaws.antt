@@ -1,7 +1,8 @@
 -- The first flaw of a program's lines, each part of which begins at token k.
 use Rattle.std.specs.Prelude.{ℕ, suc, ◌+◌, Bool, true, false, not, ◌&&◌, ◌||◌, nat_eq, nat_lt, nat_le, List, length}
 use Rattle.std.specs.Prelude.{None}
-use Rattle.cyc_basics.specs.declared.limits.TheConstants.{MOST_ARGUMENTS, MOST_LINES}
+use Rattle.cyc_basics.specs.declared.limits.Limits.{Limits}
+use Rattle.cyc_basics.specs.declared.limits.TheConstants.{MOST_LINES}
 use Rattle.cyc_lex.specs.declared.fault.IllFault.TheVariants.{Numbering, Jump, FallsOff}
 use Rattle.cyc_lex.specs.declared.fault.What.TheVariants.{Lines, Fields}
 use Rattle.heap_syntax.specs.declared.lines.tree.OperandTree.{OperandTree}
@@ -15,9 +16,9 @@ use Rattle.heap_syntax.specs.declared.lines.tree.LineTree.{LineTree}
 use Rattle.heap_reader.specs.LineSpans.{operand_span, line_span}
 use Rattle.heap_reader.specs.Flaws.{Found, ill_if, over_if, or_later, listed_flaw}
 
--- a number of fields, or of a field, is 1 to 8
-abbrev pub field_flaw : ℕ → ℕ → Found
-field_flaw k n = over_if (nat_eq n 0 || nat_lt MOST_ARGUMENTS n) Fields k
+-- a number of fields, or of a field, is at least 1, and at most as many as a cell may have
+abbrev pub field_flaw : Limits → ℕ → ℕ → Found
+field_flaw most k n = over_if (nat_eq n 0 || nat_lt most.arguments n) Fields k
 
 -- a jump leads to one of so many lines
 abbrev pub jump_flaw : ℕ → ℕ → ℕ → Found
@@ -46,31 +47,34 @@ module _ {V : Type 0} (flaw : ℕ → V → Found) (span : V → ℕ) where
   operand_flaw k Nil = None
   operand_flaw k (Variable v) = flaw k v
 
-  -- what stands after a variable and the word after it
-  abbrev pub change_flaw : ℕ → ChangeTree V → Found
-  change_flaw k (New n) = field_flaw (k + 1) n
-  change_flaw k (Assign t) = operand_flaw k t
-  change_flaw k (Load t n) = or_later (operand_flaw k t) (field_flaw (k + operand_span span t) n)
-  change_flaw k (Store n t) = or_later (field_flaw k n) (operand_flaw (k + 2) t)
+  -- the operands of a test, and the line to which it may lead, one of so many
+  abbrev pub branch_flaw : ℕ → ℕ → OperandTree V → OperandTree V → ℕ → Found
+  branch_flaw count k t u n =
+      or_later (operand_flaw k t) (or_later (operand_flaw (k + operand_span span t) u)
+      (jump_flaw count (k + operand_span span t + operand_span span u) n))
 
-  -- a command of a program with so many lines
-  module _ (count : ℕ) where
-    abbrev pub branch_flaw : ℕ → OperandTree V → OperandTree V → ℕ → Found
-    branch_flaw k t u n =
-        or_later (operand_flaw k t) (or_later (operand_flaw (k + operand_span span t) u)
-        (jump_flaw count (k + operand_span span t + operand_span span u) n))
+  -- within what the version allows
+  module _ (most : Limits) where
+    -- what stands after a variable and the word after it
+    abbrev pub change_flaw : ℕ → ChangeTree V → Found
+    change_flaw k (New n) = field_flaw most (k + 1) n
+    change_flaw k (Assign t) = operand_flaw k t
+    change_flaw k (Load t n) = or_later (operand_flaw k t) (field_flaw most (k + operand_span span t) n)
+    change_flaw k (Store n t) = or_later (field_flaw most k n) (operand_flaw (k + 2) t)
 
-    abbrev pub command_flaw : ℕ → CommandTree V → Found
-    command_flaw k Stop = None
-    command_flaw k (IfAny n) = jump_flaw count (k + 3) n
-    command_flaw k (Goto n) = jump_flaw count (k + 1) n
-    command_flaw k (Free t) = operand_flaw (k + 1) t
-    command_flaw k (If t b u n) = branch_flaw (k + 1) t u n
-    command_flaw k (StoreAtNil n t) = or_later (field_flaw (k + 2) n) (operand_flaw (k + 4) t)
-    command_flaw k (Change v c) = or_later (flaw k v) (change_flaw (k + span v) c)
+    -- a command of a program with so many lines
+    abbrev pub command_flaw : ℕ → ℕ → CommandTree V → Found
+    command_flaw count k Stop = None
+    command_flaw count k (IfAny n) = jump_flaw count (k + 3) n
+    command_flaw count k (Goto n) = jump_flaw count (k + 1) n
+    command_flaw count k (Free t) = operand_flaw (k + 1) t
+    command_flaw count k (If t b u n) = branch_flaw count (k + 1) t u n
+    command_flaw count k (StoreAtNil n t) = or_later (field_flaw most (k + 2) n) (operand_flaw (k + 4) t)
+    command_flaw count k (Change v c) = or_later (flaw k v) (change_flaw (k + span v) c)
 
-    abbrev pub line_flaw : ℕ → ℕ → LineTree V → Found
-    line_flaw n k l = or_later (line_head_flaw count n k l.number (goes_on l.command)) (command_flaw (k + 3) l.command)
+    abbrev pub line_flaw : ℕ → ℕ → ℕ → LineTree V → Found
+    line_flaw count n k l = or_later (line_head_flaw count n k l.number (goes_on l.command))
+        (command_flaw count (k + 3) l.command)
 
-  abbrev pub lines_flaw : ℕ → List (LineTree V) → Found
-  lines_flaw k ls = listed_flaw (line_flaw (length ls)) (line_span span) 0 k ls
+    abbrev pub lines_flaw : ℕ → List (LineTree V) → Found
+    lines_flaw k ls = listed_flaw (line_flaw (length ls)) (line_span span) 0 k ls

@@ -1,5 +1,6 @@
 -- Parts of trees that fit the values' types: numbers of 16 bits, lists within the limits; over the value of a term.
-use Rattle.std.specs.Prelude.{ℕ, ◌<◌, ◌≤◌, List, length, Bool, nat_le}
+use Rattle.std.specs.Prelude.{◌<◌, ◌≤◌, List, length, Bool, ◌&&◌, nat_le}
+use Rattle.cyc_basics.specs.declared.limits.Limits.{Limits}
 use Rattle.cyc_basics.specs.declared.limits.TheConstants.{MOST_ARGUMENTS, MOST_PURE, MOST_SPATIAL}
 use Rattle.heap_formula.specs.declared.terms.Term.{Term}
 use Rattle.heap_formula.specs.declared.terms.Term.TheVariants.{Nil, Univ, Exist}
@@ -33,6 +34,6 @@ module _ {T : Type 0} (value : T → Term) where
     pub spatial : Each IsSmallSpatial h.spatial
     pub spatial_few : length h.spatial ≤ MOST_SPATIAL
 
--- at most so many spatial atoms
-abbrev pub is_short_heap : ℕ → SymbolicHeap → Bool
-is_short_heap most a = nat_le (length a.spatial) most
+-- no more atoms than the version allows
+abbrev pub is_short_heap : Limits → SymbolicHeap → Bool
+is_short_heap most a = nat_le (length a.pure) most.pure && nat_le (length a.spatial) most.spatial

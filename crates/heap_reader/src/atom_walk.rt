@@ -10,42 +10,54 @@ ghost use Rattle.heap_reader.specs.Flaws.{cell_flaw, spatial_flaw, IsName, IsWal
 use crate::flaw::{Flaw, ill, over};
 use crate::form::TermReader;
 use crate::head::Heads;
-use cyc_basics::limits::{MOST_ARGUMENTS, MOST_PURE};
+use cyc_basics::limits::Limits;
 use cyc_lex::{IllFault, What};
 use heap_syntax::{PureTree, SpatialTree};
 
-fn argument<F: TermReader>(form: &F, n: usize, at: usize, term: F::Term) -> Result<usize, Flaw>
+fn argument<F: TermReader>(
+    form: &F,
+    most: Limits,
+    n: usize,
+    at: usize,
+    term: F::Term,
+) -> Result<usize, Flaw>
     requires { at + F.span term < 2 ^ 64 }
-    ensures { IsWalk result (argument_flaw (F.flaw form.now) F.span n at term) (at + F.span term) }
+    ensures { IsWalk result (argument_flaw (F.flaw form.now) F.span most n at term) (at + F.span term) }
 {
-    if n >= MOST_ARGUMENTS {
+    if n >= most.arguments as usize {
         return Err(over(What::Arguments, at));
     }
     form.walk(at, term)
 }
 
 /// Fields or arguments, from the first on.
-fn arguments<F: TermReader>(form: &F, at: usize, terms: &[F::Term]) -> Result<usize, Flaw>
+fn arguments<F: TermReader>(
+    form: &F,
+    most: Limits,
+    at: usize,
+    terms: &[F::Term],
+) -> Result<usize, Flaw>
     requires { at + total F.span terms.now < 2 ^ 64 }
-    ensures { IsWalk result (arguments_flaw (F.flaw form.now) F.span at terms.now) (at + total F.span terms.now) }
+    ensures { IsWalk result (arguments_flaw (F.flaw form.now) F.span most at terms.now) (at + total F.span terms.now) }
 {
     let mut next = at;
     for (n, term) in terms.iter().enumerate() {
-        next = argument(form, n, next, *term)?;
+        next = argument(form, most, n, next, *term)?;
     }
     Ok(next)
 }
 
 fn pure_atom<F: TermReader>(
     form: &F,
+    most: Limits,
     n: usize,
     at: usize,
     tree: PureTree<F::Term>,
 ) -> Result<usize, Flaw>
     requires { at + pure_span F.span tree < 2 ^ 64 }
-    ensures { IsWalk result (pure_flaw (F.flaw form.now) F.span n at tree) (at + pure_span F.span tree) }
+    ensures { IsWalk result (pure_flaw (F.flaw form.now) F.span most n at tree) (at + pure_span F.span tree) }
 {
-    if n >= MOST_PURE {
+    if n >= most.pure as usize {
         return Err(over(What::Pure, at));
     }
     let right = form.walk(at, tree.left)?;
@@ -54,16 +66,17 @@ fn pure_atom<F: TermReader>(
 
 fn pure_atoms<F: TermReader>(
     form: &F,
+    most: Limits,
     at: usize,
     trees: &[PureTree<F::Term>],
 ) -> Result<usize, Flaw>
     requires { at + total (pure_span F.span) trees.now < 2 ^ 64 }
-    ensures { IsWalk result (listed_flaw (pure_flaw (F.flaw form.now) F.span) (pure_span F.span) 0 at trees.now)
+    ensures { IsWalk result (listed_flaw (pure_flaw (F.flaw form.now) F.span most) (pure_span F.span) 0 at trees.now)
         (at + total (pure_span F.span) trees.now) }
 {
     let mut next = at;
     for (n, tree) in trees.iter().enumerate() {
-        next = pure_atom(form, n, next, *tree)?;
+        next = pure_atom(form, most, n, next, *tree)?;
     }
     Ok(next)
 }
@@ -71,23 +84,24 @@ fn pure_atoms<F: TermReader>(
 /// The pure atoms of a heap, or the word `true`.
 pub fn pure_part<F: TermReader>(
     form: &F,
+    most: Limits,
     at: usize,
     trees: &[PureTree<F::Term>],
 ) -> Result<usize, Flaw>
     requires { at + pures_span F.span trees.now < 2 ^ 64 }
-    ensures { IsWalk result (listed_flaw (pure_flaw (F.flaw form.now) F.span) (pure_span F.span) 0 at trees.now)
+    ensures { IsWalk result (listed_flaw (pure_flaw (F.flaw form.now) F.span most) (pure_span F.span) 0 at trees.now)
         (at + pures_span F.span trees.now) }
 {
     match trees {
         [] => Ok(at + 2),
-        _ => pure_atoms(form, at, trees),
+        _ => pure_atoms(form, most, at, trees),
     }
 }
 
-/// A cell of a heap that has at most so many spatial atoms.
+/// A cell before which n spatial atoms stand.
 fn cell<F: TermReader>(
     form: &F,
-    most: u8,
+    most: Limits,
     n: usize,
     at: usize,
     address: F::Term,
@@ -97,22 +111,28 @@ fn cell<F: TermReader>(
     ensures { IsWalk result (cell_flaw (F.flaw form.now) F.span most n at address fields.now)
         (at + spatial_span F.span (Cell address fields.now)) }
 {
-    if n >= most as usize {
+    if n >= most.spatial as usize {
         return Err(over(What::Spatial, at));
     }
     let open = form.walk(at, address)?;
-    let behind = arguments(form, open + 1, fields)?;
+    let behind = arguments(form, most, open + 1, fields)?;
     Ok(behind + 1)
 }
 
 /// The arguments of a predicate and the parenthesis after them.
-fn argument_part<F: TermReader>(form: &F, at: usize, terms: &[F::Term]) -> Result<usize, Flaw>
+fn argument_part<F: TermReader>(
+    form: &F,
+    most: Limits,
+    at: usize,
+    terms: &[F::Term],
+) -> Result<usize, Flaw>
     requires { at + total_or 1 F.span terms.now < 2 ^ 64 }
-    ensures { IsWalk result (arguments_flaw (F.flaw form.now) F.span at terms.now) (at + total_or 1 F.span terms.now) }
+    ensures { IsWalk result (arguments_flaw (F.flaw form.now) F.span most at terms.now)
+        (at + total_or 1 F.span terms.now) }
 {
     match terms {
         [] => Ok(at + 1),
-        _ => arguments(form, at, terms),
+        _ => arguments(form, most, at, terms),
     }
 }
 
@@ -134,7 +154,7 @@ fn predicate_name(heads: &Heads<'_>, at: usize, name: &str, n: usize) -> Result<
 fn predicate<F: TermReader>(
     heads: &Heads<'_>,
     form: &F,
-    most: u8,
+    most: Limits,
     n: usize,
     at: usize,
     name: &str,
@@ -145,18 +165,18 @@ fn predicate<F: TermReader>(
         (at + spatial_span F.span (Predicate name.now args.now)) }
 {
     predicate_name(heads, at, name, args.len())?;
-    if n >= most as usize {
+    if n >= most.spatial as usize {
         return Err(over(What::Spatial, at));
     }
-    let behind = argument_part(form, at + 2, args)?;
+    let behind = argument_part(form, most, at + 2, args)?;
     Ok(behind + 1)
 }
 
-/// A spatial atom before which n stand, of a heap that has at most so many.
+/// A spatial atom before which n stand.
 pub fn spatial_atom<F: TermReader>(
     heads: &Heads<'_>,
     form: &F,
-    most: u8,
+    most: Limits,
     n: usize,
     at: usize,
     tree: &SpatialTree<'_, F::Term>,

@@ -1,21 +1,22 @@
 // A walk over heaps in the order of their tokens, up to the first flaw.
-ghost use Rattle.std.specs.Prelude.{◌+◌, ◌<◌, ◌^◌, map};
+ghost use Rattle.std.specs.Prelude.{◌≡◌, ◌+◌, ◌<◌, ◌^◌, map};
 ghost use Rattle.heap_reader.specs.Trees.{spatial_of, heap_of};
 ghost use Rattle.heap_reader.specs.Spans.{total, spatial_span, spatials_span, heap_span};
-ghost use Rattle.heap_reader.specs.Flaws.{listed_flaw, spatial_flaw, heap_flaw, counted_flaw, heaps_flaw, IsWalk};
+ghost use Rattle.heap_reader.specs.Flaws.{listed_flaw, spatial_flaw, heap_flaw, heap_limit as limit_of, counted_flaw};
+ghost use Rattle.heap_reader.specs.Flaws.{heaps_flaw, IsWalk};
 
 use crate::atom_walk::{pure_part, spatial_atom};
 use crate::flaw::{Flaw, over};
 use crate::form::TermReader;
 use crate::head::Heads;
-use cyc_basics::limits::MOST_DISJUNCTS;
+use cyc_basics::limits::{Limits, MOST_DISJUNCTS};
 use cyc_lex::What;
 use heap_syntax::{HeapTree, SpatialTree};
 
 fn spatial_atoms<F: TermReader>(
     heads: &Heads<'_>,
     form: &F,
-    most: u8,
+    most: Limits,
     at: usize,
     trees: &[SpatialTree<'_, F::Term>],
 ) -> Result<usize, Flaw>
@@ -35,7 +36,7 @@ fn spatial_atoms<F: TermReader>(
 fn spatial_part<F: TermReader>(
     heads: &Heads<'_>,
     form: &F,
-    most: u8,
+    most: Limits,
     at: usize,
     trees: &[SpatialTree<'_, F::Term>],
 ) -> Result<usize, Flaw>
@@ -51,11 +52,11 @@ fn spatial_part<F: TermReader>(
 }
 
 /// Goes over a heap that begins at a token, and gives the token after it and the one that follows it. Its predicates
-/// are compared with the heads; a heap has at most 64 pure atoms, and at most `most` spatial ones.
+/// are compared with the heads; `most` says how many atoms a heap may have, and arguments an atom.
 pub fn walk_heap<F: TermReader>(
     heads: &Heads<'_>,
     form: &F,
-    most: u8,
+    most: Limits,
     at: usize,
     tree: &HeapTree<'_, F::Term>,
 ) -> Result<usize, Flaw>
@@ -63,14 +64,24 @@ pub fn walk_heap<F: TermReader>(
     ensures { IsWalk result (heap_flaw (F.flaw form.now) F.span most heads.now at (heap_of tree.now))
         (at + heap_span F.span (heap_of tree.now)) }
 {
-    let spatial = pure_part(form, at, &tree.pure)?;
+    let spatial = pure_part(form, most, at, &tree.pure)?;
     spatial_part(heads, form, most, spatial, &tree.spatial)
+}
+
+/// How many heaps may stand together; `what` says what they are.
+fn heap_limit(most: Limits, what: What) -> usize
+    ensures { result ≡ limit_of most what }
+{
+    match what {
+        What::Cases => most.cases as usize,
+        _ => MOST_DISJUNCTS,
+    }
 }
 
 fn counted_heap<F: TermReader>(
     heads: &Heads<'_>,
     form: &F,
-    most: u8,
+    most: Limits,
     what: What,
     n: usize,
     at: usize,
@@ -80,17 +91,17 @@ fn counted_heap<F: TermReader>(
     ensures { IsWalk result (counted_flaw (F.flaw form.now) F.span most heads.now what n at (heap_of tree.now))
         (at + heap_span F.span (heap_of tree.now)) }
 {
-    if n >= MOST_DISJUNCTS {
+    if n >= heap_limit(most, what) {
         return Err(over(what, at));
     }
     walk_heap(heads, form, most, at, tree)
 }
 
-/// Goes over heaps, of which at most sixteen may stand together; `what` says what they are.
+/// Goes over heaps; `what` says what they are, and so how many may stand together.
 pub fn walk_heaps<F: TermReader>(
     heads: &Heads<'_>,
     form: &F,
-    most: u8,
+    most: Limits,
     what: What,
     at: usize,
     trees: &[HeapTree<'_, F::Term>],

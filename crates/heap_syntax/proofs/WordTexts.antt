@@ -9,7 +9,7 @@ use Rattle.cyc_grammar.proofs.ClassLaws.{numeral_of-law}
 use Rattle.heap_syntax.specs.Words.{nil, true_word, emp, pred_word, or_word, last_word, cyclist_word, node_word}
 use Rattle.heap_syntax.specs.Words.{from_word, given_word, by_word, to_word, goal_word}
 use Rattle.heap_syntax.specs.declared.version.Version.{Version}
-use Rattle.heap_syntax.specs.declared.version.Version.TheVariants.{One, Two}
+use Rattle.heap_syntax.specs.declared.version.Version.TheVariants.{One, Two, Three}
 use Rattle.heap_syntax.specs.Versions.{version_text, versions, version, first_text, first_version}
 
 pub nil-word : is_lexeme (nil.word tt) ≡ true
@@ -56,6 +56,7 @@ pub version-word : (v : Version) → version.fits v → is_lexeme (version.word 
 unfolding is_number_text
 version-word One f = refl
 version-word Two f = refl
+version-word Three f = refl
 
 pub version-law : ClassLaw version
 version-law = numeral_of-law version_text versions One found
@@ -63,6 +64,7 @@ version-law = numeral_of-law version_text versions One found
     found : (v : Version) → find_text version_text versions (version_text v) ≡ Some v
     found One = refl
     found Two = refl
+    found Three = refl
 
 pub first_version-word : is_lexeme (first_version.word tt) ≡ true
 unfolding is_number_text

@@ -5,7 +5,7 @@ use Rattle.cyc_grammar.specs.Syntax.{Syntax, Class, one, seq, alt, many, shaped,
 use Rattle.cyc_grammar.specs.Classes.{symbol, keyword, number}
 use Rattle.heap_syntax.specs.Words.{nil, colon, semicolon, assign, star}
 use Rattle.heap_syntax.specs.declared.version.Version.{Version}
-use Rattle.heap_syntax.specs.declared.version.Version.TheVariants.{One, Two}
+use Rattle.heap_syntax.specs.declared.version.Version.TheVariants.{One, Two, Three}
 use Rattle.heap_syntax.specs.Grammar.{Any, sign}
 use Rattle.heap_syntax.specs.declared.lines.tree.OperandTree.{OperandTree}
 use Rattle.heap_syntax.specs.declared.lines.tree.OperandTree.TheVariants.{Nil, Variable}
@@ -107,6 +107,7 @@ free_branch = after star (after goto_word last_number)
 abbrev pub has_free_branches : Version → Bool
 has_free_branches One = false
 has_free_branches Two = true
+has_free_branches Three = true
 
 -- what stands after "if": free_branch, where the version has it, or branch
 abbrev pub IsBranch : {V : Type 0} → ℕ ⊎ Branch V → Type 0

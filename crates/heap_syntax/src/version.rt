@@ -5,10 +5,13 @@ ghost use Rattle.cyc_lex.specs.Writing.{write};
 ghost use Rattle.cyc_grammar.specs.Syntax.{read_class};
 ghost use Rattle.cyc_grammar.specs.Classes.{find_text};
 ghost use Rattle.cyc_grammar.specs.Giving.{Gives};
-ghost use Rattle.heap_syntax.specs.Versions.{version_text, versions, most_spatial as most_of};
+ghost use Rattle.cyc_basics.specs.Limits.{AreLimits};
+ghost use Rattle.heap_syntax.specs.Versions.{version_text, versions, limits as limits_of};
 ghost use Rattle.heap_syntax.specs.Versions as formats;
 
-use cyc_basics::limits::MOST_SPATIAL;
+use cyc_basics::limits::{
+    Limits, MOST_ARGUMENTS, MOST_CASES, MOST_CELLS, MOST_LOCALS, MOST_PURE, MOST_SPATIAL,
+};
 use cyc_basics::memory::OutOfMemory;
 use cyc_grammar::{Cursor, Refusal};
 use cyc_lex::WordWriter;
@@ -18,6 +21,7 @@ use cyc_lex::WordWriter;
 pub enum Version {
     One,
     Two,
+    Three,
 }
 
 impl Version {
@@ -28,6 +32,7 @@ impl Version {
         match self {
             Version::One => 1,
             Version::Two => 2,
+            Version::Three => 3,
         }
     }
 
@@ -38,18 +43,38 @@ impl Version {
         match text {
             "1" => Some(Version::One),
             "2" => Some(Version::Two),
+            "3" => Some(Version::Three),
             _ => None,
         }
     }
 
-    /// The greatest number of spatial atoms of one heap.
-    pub fn most_spatial(self) -> u8
-        ensures value { result ≡ most_of self }
-        ensures fits { result ≤ MOST_SPATIAL }
+    /// What a file of this version may have.
+    pub fn limits(self) -> Limits
+        ensures value { result ≡ limits_of self }
+        ensures fits { AreLimits result }
     {
+        let first = Limits {
+            arguments: 8,
+            cases: 16,
+            locals: 16,
+            pure: 64,
+            spatial: 16,
+            cells: 16,
+        };
         match self {
-            Version::One => 16,
-            Version::Two => MOST_SPATIAL as u8,
+            Version::One => first,
+            Version::Two => Limits {
+                spatial: 32,
+                ..first
+            },
+            Version::Three => Limits {
+                arguments: MOST_ARGUMENTS as u32,
+                cases: MOST_CASES as u32,
+                locals: MOST_LOCALS,
+                pure: MOST_PURE as u32,
+                spatial: MOST_SPATIAL as u32,
+                cells: MOST_CELLS as u32,
+            },
         }
     }
 }

@@ -1,10 +1,11 @@
 //! Small graphs, worked by hand.
 use crate::graphs::{Nodes, graph_of};
 use buchi_inclusion::{Inclusion, included};
+use cyc_basics::limits::MOST_POSITIONS;
 use cyc_basics::memory::OutOfMemory;
 use std::alloc::Global;
 use std::test::Fail;
-use trace_pairs::{TraceGraph, is_graph, is_lasso, lasso_progresses};
+use trace_pairs::{Edge, Node, TraceGraph, is_graph, is_lasso, lasso_progresses};
 
 /// What `included` answers. A counter has to be a lasso that doesn't progress.
 fn answer_on(alloc: Global, graph: &TraceGraph, limit: u32) -> Result<&'static str, OutOfMemory> {
@@ -86,5 +87,43 @@ fn answers(rt: HostRuntime) -> Result<(), Fail> {
     for (number, (nodes, limit, wanted)) in ANSWERS.iter().enumerate() {
         assert!(rt; answer_of(alloc, nodes, *limit)? == *wanted, "row {number}");
     }
+    Ok(())
+}
+
+/// A node with so many positions, and an edge back to it: each position but the last goes to itself without progress,
+/// and these pairs more.
+fn loop_of(
+    alloc: Global,
+    count: u8,
+    more: &[(u8, u8, bool)],
+) -> Result<TraceGraph, OutOfMemory> {
+    let mut positions = Vec::new(alloc);
+    let mut pairs = Vec::new(alloc);
+    for position in 0..count {
+        positions.push(position)?;
+    }
+    for position in 1..count {
+        pairs.push((position - 1, position - 1, false))?;
+    }
+    for pair in more {
+        pairs.push(*pair)?;
+    }
+    let mut edges = Vec::new(alloc);
+    edges.push(Edge::new(0, pairs))?;
+    let mut graph = TraceGraph::new(alloc);
+    graph.push(Node::new(positions, edges))?;
+    Ok(graph)
+}
+
+#[test]
+fn progress_at_the_last_position(rt: HostRuntime) -> Result<(), Fail> {
+    let alloc = rt.alloc();
+    let last = MOST_POSITIONS - 1;
+    let progress = loop_of(alloc, MOST_POSITIONS, &[(last, last, true)])?;
+    assert!(rt; answer_on(alloc, &progress, 100)? == "included");
+    let without = loop_of(alloc, MOST_POSITIONS, &[])?;
+    assert!(rt; answer_on(alloc, &without, 100)? == "counter");
+    let too_many = loop_of(alloc, MOST_POSITIONS + 1, &[])?;
+    assert!(rt; answer_on(alloc, &too_many, 100)? == "no graph");
     Ok(())
 }

@@ -6,18 +6,22 @@ use Rattle.cyc_lex.proofs.Letters.{letters-name}
 use Rattle.cyc_grammar.specs.Syntax.{Class, one}
 use Rattle.cyc_grammar.specs.Classes.{number}
 use Rattle.cyc_grammar.proofs.Ends.{Inner, EndsLast, seq-inner, after-inner, before-inner, shaped-inner, or_empty-inner}
-use Rattle.cyc_grammar.proofs.Ends.{end-once, number-inner}
+use Rattle.cyc_grammar.proofs.Ends.{headed-inner, end-once, number-inner}
 use Rattle.heap_syntax.specs.Words.{comma, semicolon, arrow, opening, closing, last_word, cyclist_word}
 use Rattle.heap_syntax.specs.Grammar.{Any}
-use Rattle.heap_syntax.proofs.WordTexts.{last-word, cyclist-word, first_version-word, syms}
+use Rattle.heap_syntax.proofs.WordTexts.{last-word, cyclist-word, syms}
 use Rattle.heap_syntax.proofs.HeapEnds.{listed-inner}
 use Rattle.heap_syntax.specs.DefinitionTrees.{Heap, Definition}
 use Rattle.heap_syntax.specs.DefinitionGrammar.{terms, heap, definitions}
 use Rattle.heap_syntax.proofs.DefinitionEnds.{heap-of, definitions-inner}
 use Rattle.model_file.specs.Trees.{Cell}
-use Rattle.heap_syntax.specs.Versions.{first_version}
+use Rattle.cyc_lex.specs.Word.{is_number_text}
+use Rattle.model_file.specs.declared.version.ModelVersion.{ModelVersion}
+use Rattle.model_file.specs.declared.version.ModelVersion.TheVariants.{One, Three}
+use Rattle.model_file.specs.Versions.{model_version}
 use Rattle.model_file.specs.Grammar.{model_word, stack_word, heap_word, ask_word, numbers, values, to_cell, from_cell}
-use Rattle.model_file.specs.Grammar.{cell, some_cell, cells1, cells, question, state, to_model, from_model, body, model}
+use Rattle.model_file.specs.Grammar.{cell, some_cell, cells1, cells, question, state, to_model, from_model, contents}
+use Rattle.model_file.specs.Grammar.{body, model}
 
 model-word : is_lexeme (model_word.word tt) ≡ true
 model-word = letters-name (codes "model") refl
@@ -60,13 +64,21 @@ unfolding question
 question-inner = after-inner ask_word _ ask-word (before-inner _ last_word last-word
     (before-inner (heap (terms false)) semicolon syms.semicolon_word (heap-of false)))
 
+pub version-word : (v : ModelVersion) → model_version.fits v → is_lexeme (model_version.word v) ≡ true
+unfolding is_number_text
+version-word One f = refl
+version-word Three f = refl
+
+contents-inner : (v : ModelVersion) → Inner (contents v)
+contents-inner v =
+    after-inner semicolon _ syms.semicolon_word (seq-inner definitions _ definitions-inner
+    (seq-inner state _ state-inner (before-inner question semicolon syms.semicolon_word question-inner)))
+
 pub body-inner : Inner body
 unfolding body
-body-inner = shaped-inner {A = List Definition × ((List ℕ × List Cell) × Heap)} to_model from_model Any _
-    (after-inner cyclist_word _ cyclist-word (after-inner model_word _ model-word
-    (after-inner first_version _ first_version-word (after-inner semicolon _ syms.semicolon_word
-    (seq-inner definitions _ definitions-inner (seq-inner state _ state-inner
-    (before-inner question semicolon syms.semicolon_word question-inner)))))))
+body-inner = shaped-inner {A = (v : ModelVersion) × (List Definition × ((List ℕ × List Cell) × Heap))}
+    to_model from_model Any _ (after-inner cyclist_word _ cyclist-word (after-inner model_word _ model-word
+    (headed-inner model_version contents version-word contents-inner)))
 
 pub model-last : EndsLast model
 unfolding model

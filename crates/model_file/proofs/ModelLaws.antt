@@ -1,12 +1,12 @@
 -- The grammar of model files is lawful: what is read is spelled so, what is spelled is read, and a fault is exact.
-use Rattle.std.proofs.Common.{◌≡◌, ℕ, false, List, [], ◌∷◌, ◌++◌, refl}
+use Rattle.std.proofs.Common.{◌≡◌, ℕ, false, List, [], ◌∷◌, ◌++◌, Some, refl}
 use Rattle.cyc_lex.specs.Word.{Word}
 use Rattle.cyc_grammar.specs.Syntax.{Class, one, seq, after, before, is_one}
 use Rattle.cyc_grammar.specs.Classes.{the_end, number}
 use Rattle.cyc_grammar.proofs.Laws.{Lawful, Stops, BeginsNot, ClassLaw, one-law, seq-law, shaped-law, after-law}
-use Rattle.cyc_grammar.proofs.Laws.{before-law, or_empty-law, Stops-never}
-use Rattle.cyc_grammar.proofs.ClassLaws.{symbol-law, keyword-law, the_end-law, number-law}
-use Rattle.heap_syntax.proofs.WordTexts.{first_version-law}
+use Rattle.cyc_grammar.proofs.Laws.{before-law, headed-law, or_empty-law, Stops-never}
+use Rattle.cyc_grammar.specs.Classes.{find_text}
+use Rattle.cyc_grammar.proofs.ClassLaws.{symbol-law, keyword-law, the_end-law, number-law, numeral_of-law}
 use Rattle.heap_syntax.proofs.HeapLaws.{closed-stops, listed-law, listed-closed, listed-some, listed-not}
 use Rattle.heap_syntax.specs.Words.{comma, semicolon, arrow, opening, closing, last_word}
 use Rattle.heap_syntax.specs.Grammar.{Any}
@@ -14,9 +14,12 @@ use Rattle.heap_syntax.specs.DefinitionTrees.{Heap, Definition}
 use Rattle.heap_syntax.specs.DefinitionGrammar.{terms, heap, definitions}
 use Rattle.heap_syntax.proofs.DefinitionLaws.{heap-lawful, heap-stops, definitions-law, definitions-end}
 use Rattle.model_file.specs.Trees.{Cell}
-use Rattle.heap_syntax.specs.Versions.{first_version}
+use Rattle.model_file.specs.declared.version.ModelVersion.{ModelVersion}
+use Rattle.model_file.specs.declared.version.ModelVersion.TheVariants.{One, Three}
+use Rattle.model_file.specs.Versions.{version_text, versions, model_version}
 use Rattle.model_file.specs.Grammar.{stack_word, heap_word, ask_word, numbers, values, to_cell, from_cell, cell}
-use Rattle.model_file.specs.Grammar.{some_cell, cells1, cells, question, state, to_model, from_model, body, model}
+use Rattle.model_file.specs.Grammar.{some_cell, cells1, cells, question, state, to_model, from_model, contents}
+use Rattle.model_file.specs.Grammar.{body, model}
 
 -- ---- numbers
 
@@ -119,18 +122,29 @@ state-begins : (ds : List Definition) (s : List ℕ × List Cell) (h : Heap) (re
 unfolding state
 state-begins ds s h rest = definitions-end (stack_word.word tt) refl ds
 
-body-law : Lawful body
-unfolding body
-body-law =
-    shaped-law {A = List Definition × ((List ℕ × List Cell) × Heap)} to_model from_model Any _ (λ x f. (refl, tt))
-    (λ m h. refl)
-    (after-law _ _ (keyword-law _) (after-law _ _ (keyword-law _)
-    (after-law first_version _ first_version-law (after-law semicolon _ (symbol-law _)
+pub version-law : ClassLaw model_version
+version-law = numeral_of-law version_text versions One found
+  where
+    found : (v : ModelVersion) → find_text version_text versions (version_text v) ≡ Some v
+    found One = refl
+    found Three = refl
+
+contents-law : (v : ModelVersion) → Lawful (contents v)
+contents-law v =
+    after-law semicolon _ (symbol-law _)
     (seq-law definitions (seq state (before question semicolon)) definitions-law
     (seq-law state (before question semicolon) state-law
     (before-law question semicolon (symbol-law _) question-law (λ h f. question-closed h (semicolon.word tt)))
     (λ x y r fx fy h. closed-stops state (λ x d f. state-closed x d) x fx ((before question semicolon).words y ++ r)))
-    (λ ds p r fx fy h. state-begins ds p.0 p.1 r))))))
+    (λ ds p r fx fy h. state-begins ds p.0 p.1 r))
+
+body-law : Lawful body
+unfolding body
+body-law =
+    shaped-law {A = (v : ModelVersion) × (List Definition × ((List ℕ × List Cell) × Heap))} to_model from_model Any _
+    (λ x f. (refl, tt)) (λ m h. refl)
+    (after-law _ _ (keyword-law _) (after-law _ _ (keyword-law _)
+    (headed-law model_version contents version-law contents-law)))
 
 pub model-law : Lawful model
 unfolding model body

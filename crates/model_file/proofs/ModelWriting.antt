@@ -8,7 +8,7 @@ use Rattle.cyc_grammar.proofs.WrittenTexts.{wrote-behind, wrote-both, wrote-ende
 use Rattle.heap_syntax.specs.Words.{cyclist_word, comma, semicolon}
 use Rattle.heap_syntax.specs.DefinitionGrammar.{definitions}
 use Rattle.model_file.specs.Trees.{Model}
-use Rattle.heap_syntax.specs.Versions.{first_version}
+use Rattle.model_file.specs.Versions.{model_version}
 use Rattle.model_file.specs.Grammar.{model_word, question, state, body}
 
 -- a word, some words, and a word after them
@@ -26,17 +26,18 @@ behind-comma-wrote old mid new n ha hb = wrote-behind old mid new (comma.word tt
 
 -- the whole of a model file
 pub body-wrote : (old a b c d e f g h : Written) (m : Model) → a ≡ write old (cyclist_word.word tt)
-    → b ≡ write a (model_word.word tt) → c ≡ write b (first_version.word tt) → d ≡ write c (semicolon.word tt)
+    → b ≡ write a (model_word.word tt) → c ≡ write b (model_version.word m.version) → d ≡ write c (semicolon.word tt)
     → e ≡ write_all d (definitions.words m.definitions) → f ≡ write_all e (state.words (m.stack, m.cells))
     → g ≡ write_all f (question.words m.ask) → h ≡ write g (semicolon.word tt) → h ≡ write_all old (body.words m)
 unfolding body
 body-wrote old a b c d e f g h m ha hb hc hd he hf hg hh =
     let last : List Word = state.words (m.stack, m.cells) ++ (question.words m.ask ++ semicolon.word tt ∷ []) in
     let rest : List Word = definitions.words m.definitions ++ last in
-    wrote-behind old a h (cyclist_word.word tt) (model_word.word tt ∷ first_version.word tt ∷ semicolon.word tt ∷ rest)
+    wrote-behind old a h (cyclist_word.word tt) (model_word.word tt ∷ model_version.word m.version ∷ semicolon.word tt ∷
+    rest)
     ha
-    (wrote-behind a b h (model_word.word tt) (first_version.word tt ∷ semicolon.word tt ∷ rest) hb
-    (wrote-behind b c h (first_version.word tt) (semicolon.word tt ∷ rest) hc
+    (wrote-behind a b h (model_word.word tt) (model_version.word m.version ∷ semicolon.word tt ∷ rest) hb
+    (wrote-behind b c h (model_version.word m.version) (semicolon.word tt ∷ rest) hc
     (wrote-behind c d h (semicolon.word tt) rest hd
     (wrote-both d e h (definitions.words m.definitions) last he
     (wrote-ended e f g h (state.words (m.stack, m.cells)) (question.words m.ask) (semicolon.word tt) hf hg hh)))))

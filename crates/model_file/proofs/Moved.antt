@@ -1,6 +1,7 @@
 -- A part without a flaw has none wherever it stands.
 use Rattle.std.proofs.Common.{◌≡◌, ℕ, suc, ◌+◌, Bool, List, [], ◌∷◌, length, Option, Some, None, refl, ap}
 use Rattle.std.specs.Prelude.{not, nat_eq, nat_lt, nat_le}
+use Rattle.cyc_basics.specs.declared.limits.Limits.{Limits}
 use Rattle.cyc_lex.specs.declared.fault.IllFault.{IllFault}
 use Rattle.cyc_lex.specs.declared.fault.IllFault.TheVariants.{Arity}
 use Rattle.cyc_lex.specs.declared.fault.What.{What}
@@ -41,58 +42,62 @@ term_moved k j Nil e = refl
 term_moved k j (Univ n) e = over_moved (nat_lt 65534 n) Variable (k + 1) (j + 1) e
 term_moved k j (Exist n) e = over_moved (nat_lt 65534 n) Variable (k + 1) (j + 1) e
 
-argument_moved : (n k j : ℕ) (t : TermTree) → argument_flaw (term_flaw Outside) term_span n k t ≡ None
-    → argument_flaw (term_flaw Outside) term_span n j t ≡ None
-argument_moved n k j t e =
-    both_moved (over_if (nat_le 8 n) Arguments k) (term_flaw Outside k t) (over_if (nat_le 8 n) Arguments j)
-    (term_flaw Outside j t) (over_moved (nat_le 8 n) Arguments k j) (term_moved k j t) e
-
-arguments_moved : (k j : ℕ) (ts : List TermTree) → arguments_flaw (term_flaw Outside) term_span k ts ≡ None
-    → arguments_flaw (term_flaw Outside) term_span j ts ≡ None
-arguments_moved k j ts e = listed_moved (argument_flaw (term_flaw Outside) term_span)
-    term_span argument_moved 0 k j ts e
-
-pure_moved : (n k j : ℕ) (x : PureTree) → pure_flaw (term_flaw Outside) term_span n k x ≡ None
-    → pure_flaw (term_flaw Outside) term_span n j x ≡ None
-pure_moved n k j x e =
-    let s = term_span x.left in
-    both_moved (over_if (nat_le 64 n) Pure k) (or_later (term_flaw Outside k x.left)
-    (term_flaw Outside (k + s) x.right)) (over_if (nat_le 64 n) Pure j)
-    (or_later (term_flaw Outside j x.left) (term_flaw Outside (j + s) x.right)) (over_moved (nat_le 64 n) Pure k j)
-    (both_moved (term_flaw Outside k x.left) (term_flaw Outside (k + s) x.right) (term_flaw Outside j x.left)
-    (term_flaw Outside (j + s) x.right) (term_moved k j x.left) (term_moved (k + s) (j + s) x.right)) e
-
 use_moved : (o : Option ℕ) (n k j : ℕ) → use_flaw o n k ≡ None → use_flaw o n j ≡ None
 use_moved None n k j e = absurd cc
 use_moved (Some arity) n k j e = ill_moved (not (nat_eq n arity)) Arity k j e
 
-module _ (most : ℕ) (hs : List Heading) where
-  spatial_moved : (n k j : ℕ) (x : Spatial) → spatial_flaw (term_flaw Outside) term_span most hs n k x ≡ None
-      → spatial_flaw (term_flaw Outside) term_span most hs n j x ≡ None
-  spatial_moved n k j (Cell t ts) e =
-      let s = term_span t in
-      let over = λ (i : ℕ). over_if (nat_le most n) SpatialAtoms i in
-      let rest = λ (i : ℕ). or_later (term_flaw Outside i t)
-      (arguments_flaw (term_flaw Outside) term_span (i + s + 1) ts) in
-      both_moved (over k) (rest k) (over j) (rest j) (over_moved (nat_le most n) SpatialAtoms k j)
-      (both_moved (term_flaw Outside k t) (arguments_flaw (term_flaw Outside) term_span (k + s + 1) ts)
-      (term_flaw Outside j t) (arguments_flaw (term_flaw Outside) term_span (j + s + 1) ts) (term_moved k j t)
-      (arguments_moved (k + s + 1) (j + s + 1) ts)) e
-  spatial_moved n k j (Predicate name ts) e =
-      let known = λ (i : ℕ). use_flaw (arity_in hs name) (length ts) i in
-      let over = λ (i : ℕ). over_if (nat_le most n) SpatialAtoms i in
-      let rest = λ (i : ℕ). arguments_flaw (term_flaw Outside) term_span (i + 2) ts in
-      both_moved (known k) (or_later (over k) (rest k)) (known j) (or_later (over j) (rest j))
-      (use_moved (arity_in hs name) (length ts) k j) (both_moved (over k) (rest k) (over j) (rest j)
-      (over_moved (nat_le most n) SpatialAtoms k j) (arguments_moved (k + 2) (j + 2) ts)) e
+module _ (most : Limits) where
+  argument_moved : (n k j : ℕ) (t : TermTree) → argument_flaw (term_flaw Outside) term_span most n k t ≡ None
+      → argument_flaw (term_flaw Outside) term_span most n j t ≡ None
+  argument_moved n k j t e =
+      both_moved (over_if (nat_le most.arguments n) Arguments k) (term_flaw Outside k t)
+      (over_if (nat_le most.arguments n) Arguments j)
+      (term_flaw Outside j t) (over_moved (nat_le most.arguments n) Arguments k j) (term_moved k j t) e
 
-  pub heap_moved : (k j : ℕ) (h : Heap) → heap_flaw (term_flaw Outside) term_span most hs k h ≡ None
-      → heap_flaw (term_flaw Outside) term_span most hs j h ≡ None
-  heap_moved k j h e =
-      let pures = λ (i : ℕ). listed_flaw (pure_flaw (term_flaw Outside) term_span) (pure_span term_span) 0 i h.pure in
-      let spatials = λ (i : ℕ). listed_flaw (spatial_flaw (term_flaw Outside) term_span most hs)
-      (spatial_span term_span) 0 (i + pures_span term_span h.pure) h.spatial in
-      both_moved (pures k) (spatials k) (pures j) (spatials j)
-      (listed_moved (pure_flaw (term_flaw Outside) term_span) (pure_span term_span) pure_moved 0 k j h.pure)
-      (listed_moved (spatial_flaw (term_flaw Outside) term_span most hs) (spatial_span term_span) spatial_moved 0
-      (k + pures_span term_span h.pure) (j + pures_span term_span h.pure) h.spatial) e
+  arguments_moved : (k j : ℕ) (ts : List TermTree) → arguments_flaw (term_flaw Outside) term_span most k ts ≡ None
+      → arguments_flaw (term_flaw Outside) term_span most j ts ≡ None
+  arguments_moved k j ts e = listed_moved (argument_flaw (term_flaw Outside) term_span most)
+      term_span argument_moved 0 k j ts e
+
+  pure_moved : (n k j : ℕ) (x : PureTree) → pure_flaw (term_flaw Outside) term_span most n k x ≡ None
+      → pure_flaw (term_flaw Outside) term_span most n j x ≡ None
+  pure_moved n k j x e =
+      let s = term_span x.left in
+      both_moved (over_if (nat_le most.pure n) Pure k) (or_later (term_flaw Outside k x.left)
+      (term_flaw Outside (k + s) x.right)) (over_if (nat_le most.pure n) Pure j)
+      (or_later (term_flaw Outside j x.left) (term_flaw Outside (j + s) x.right))
+      (over_moved (nat_le most.pure n) Pure k j)
+      (both_moved (term_flaw Outside k x.left) (term_flaw Outside (k + s) x.right) (term_flaw Outside j x.left)
+      (term_flaw Outside (j + s) x.right) (term_moved k j x.left) (term_moved (k + s) (j + s) x.right)) e
+
+  module _ (hs : List Heading) where
+    spatial_moved : (n k j : ℕ) (x : Spatial) → spatial_flaw (term_flaw Outside) term_span most hs n k x ≡ None
+        → spatial_flaw (term_flaw Outside) term_span most hs n j x ≡ None
+    spatial_moved n k j (Cell t ts) e =
+        let s = term_span t in
+        let over = λ (i : ℕ). over_if (nat_le most.spatial n) SpatialAtoms i in
+        let rest = λ (i : ℕ). or_later (term_flaw Outside i t)
+        (arguments_flaw (term_flaw Outside) term_span most (i + s + 1) ts) in
+        both_moved (over k) (rest k) (over j) (rest j) (over_moved (nat_le most.spatial n) SpatialAtoms k j)
+        (both_moved (term_flaw Outside k t) (arguments_flaw (term_flaw Outside) term_span most (k + s + 1) ts)
+        (term_flaw Outside j t) (arguments_flaw (term_flaw Outside) term_span most (j + s + 1) ts) (term_moved k j t)
+        (arguments_moved (k + s + 1) (j + s + 1) ts)) e
+    spatial_moved n k j (Predicate name ts) e =
+        let known = λ (i : ℕ). use_flaw (arity_in hs name) (length ts) i in
+        let over = λ (i : ℕ). over_if (nat_le most.spatial n) SpatialAtoms i in
+        let rest = λ (i : ℕ). arguments_flaw (term_flaw Outside) term_span most (i + 2) ts in
+        both_moved (known k) (or_later (over k) (rest k)) (known j) (or_later (over j) (rest j))
+        (use_moved (arity_in hs name) (length ts) k j) (both_moved (over k) (rest k) (over j) (rest j)
+        (over_moved (nat_le most.spatial n) SpatialAtoms k j) (arguments_moved (k + 2) (j + 2) ts)) e
+
+    pub heap_moved : (k j : ℕ) (h : Heap) → heap_flaw (term_flaw Outside) term_span most hs k h ≡ None
+        → heap_flaw (term_flaw Outside) term_span most hs j h ≡ None
+    heap_moved k j h e =
+        let pures = λ (i : ℕ). listed_flaw (pure_flaw (term_flaw Outside) term_span most) (pure_span term_span) 0 i
+        h.pure in
+        let spatials = λ (i : ℕ). listed_flaw (spatial_flaw (term_flaw Outside) term_span most hs)
+        (spatial_span term_span) 0 (i + pures_span term_span h.pure) h.spatial in
+        both_moved (pures k) (spatials k) (pures j) (spatials j)
+        (listed_moved (pure_flaw (term_flaw Outside) term_span most) (pure_span term_span) pure_moved 0 k j h.pure)
+        (listed_moved (spatial_flaw (term_flaw Outside) term_span most hs) (spatial_span term_span) spatial_moved 0
+        (k + pures_span term_span h.pure) (j + pures_span term_span h.pure) h.spatial) e

@@ -18,6 +18,7 @@ use Rattle.model_file.proofs.ModelsAgain.{model_known}
 -- a tree says one model
 pub one_model : (t : trees.Model) (m n : Model) → IsModelOf t m → IsModelOf t n → AreSame m n
 one_model t m n first second = record {
+  version = first.version ∙ sym second.version;
   most = first.most ∙ sym second.most;
   definitions = first.definitions ∙ sym second.definitions;
   stack = first.stack ∙ sym second.stack;
@@ -34,16 +35,16 @@ one_spelled bytes m n first second =
 -- ---- what is written
 
 -- a model's text spells it
-pub text_is_read : (m : Model) → IsRead (text_of_model m.defs.list m.stack m.heap m.ask) (Ok m)
+pub text_is_read : (m : Model) → IsRead (text_of_model m.version m.defs.list m.stack m.heap m.ask) (Ok m)
 unfolding model
 text_is_read m =
-    let t = tree_of m.defs.list m.stack m.heap m.ask in
+    let t = tree_of m.version m.defs.list m.stack m.heap m.ask in
     let has = lexemes-read (body.words t) (body-inner.inner t m.fits) in
     (has.0, has.1, (t, (m.fits, has.2), m.flawless, model_known m))
 
 -- what is written of a model, if anything, spells it
 pub written_is_read : {V E : Type 0} (items : V → List ℕ) (m : Model) (t : trees.Model) (r : Result V E)
-    → t ≡ tree_of m.defs.list m.stack m.heap m.ask → IfOk r (λ v. items v ≡ text_of (body.words t))
+    → t ≡ tree_of m.version m.defs.list m.stack m.heap m.ask → IfOk r (λ v. items v ≡ text_of (body.words t))
     → IfOk r (λ v. IsRead (items v) (Ok m))
 written_is_read items m t (Ok v) same h =
     subst (λ bs. IsRead bs (Ok m)) (sym (h ∙ ap (λ u. text_of (body.words u)) same)) (text_is_read m)
@@ -51,7 +52,7 @@ written_is_read items m t (Err e) same h = tt
 
 -- what is read of a model's text is that model
 pub text_read_again : (m : Model) (bytes : List ℕ) (answer : Result Model ReadFault)
-    → bytes ≡ text_of_model m.defs.list m.stack m.heap m.ask → Reads bytes answer → IsReadAgain m answer
+    → bytes ≡ text_of_model m.version m.defs.list m.stack m.heap m.ask → Reads bytes answer → IsReadAgain m answer
 text_read_again m bytes answer same =
     again model_files model-law AreSame one_model m bytes answer
     (subst (λ bs. IsRead bs (Ok m)) (sym same) (text_is_read m))

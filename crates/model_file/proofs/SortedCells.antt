@@ -1,6 +1,6 @@
 -- The cells of a heap in the order of their addresses have no flaw where those that it was made of have none.
-use Rattle.std.proofs.Common.{◌≡◌, ℕ, zero, suc, ◌+◌, ◌<◌, ◌≤◌, Bool, true, false, cond, T, List, [], ◌∷◌, ◌++◌, length}
-use Rattle.std.proofs.Common.{map, take, get_or, Some, None, refl, sym, ap, subst, ◌∙◌, arith}
+use Rattle.std.proofs.Common.{◌≡◌, ℕ, zero, suc, ◌+◌, ◌*◌, ◌<◌, ◌≤◌, Bool, true, false, cond, T, List, [], ◌∷◌, ◌++◌}
+use Rattle.std.proofs.Common.{length, map, take, get_or, Some, None, refl, sym, ap, subst, ◌∙◌, arith}
 use Rattle.std.specs.Prelude.{◌||◌, ◌&&◌, nat_eq, nat_le}
 use Rattle.std.specs.List.{list_any}
 use Rattle.std.specs.declared.cmp.Ordering.{Ordering}
@@ -11,8 +11,9 @@ use Rattle.std.specs.Cmp.{nat_cmp_total, ranks}
 use Rattle.std.specs.FinMap.{entries, entries_sorted, from_entries, empty, entries-insert, len-entries, len-empty, len}
 use Rattle.std.specs.FinMap.{len-insert, contains_key, get-entries, nat_cmp-IsAntisymmetric}
 use Rattle.std.specs.FinMap.Entries.{put, find, by_order, below_all, is_sorted}
-use Rattle.std.proofs.lemmas.Bool.{ne_eqb, lt-leb}
+use Rattle.std.proofs.lemmas.Bool.{ne_eqb, lt-leb, le-ltb}
 use Rattle.std.proofs.lemmas.List.{length-map, nil_from_length}
+use Rattle.cyc_basics.specs.declared.limits.Limits.{Limits}
 use Rattle.heap_formula.specs.Words.{Each}
 use Rattle.heap_formula.specs.Cells.{Cells as Heap, cell_at}
 use Rattle.cyc_lex.specs.declared.fault.IllFault.TheVariants.{Address}
@@ -169,49 +170,9 @@ one_longer : {X : Type 0} (xs : List X) (y : X) → length (xs ++ y ∷ []) ≡ 
 one_longer [] y = refl
 one_longer (x ∷ xs) y = ap suc (one_longer xs y)
 
--- the cell after some others
-cell_right : (before es : List Entry) (k : ℕ) (e : Entry) → length before < 16 → IsFine (to_cell e) → IsNew before e
-    → cell_flaw (map to_cell (before ++ es)) (length before) k (to_cell e) ≡ None
-cell_right before es k e few fine new =
-    let own : map address_of (take (length before) (map to_cell (before ++ es))) ≡ addresses before =
-    ap (λ cs. map address_of (take (length before) cs)) (trees_behind before es)
-    ∙ ap (λ n. map address_of (take n (map to_cell before ++ map to_cell es))) (sym (length-map before to_cell))
-    ∙ ap (map address_of) (front_taken (map to_cell before) (map to_cell es)) in
-    let short = fine.few in
-    none_later (address_flaw (map address_of (take (length before) (map to_cell (before ++ es)))) k e.0)
-    (or_later (over_if (nat_le 16 (length before)) Cells k) (fields_flaw (k + 3) e.1))
-    (ap (λ others. address_flaw others k e.0) own ∙ ap (λ b.
-    ill_if (b || list_any (nat_eq e.0) (addresses before)) Address k) fine.positive
-    ∙ ap (λ b. ill_if b Address k) new)
-    (none_later (over_if (nat_le 16 (length before)) Cells k) (fields_flaw (k + 3) e.1)
-    (ap (λ b. over_if b Cells k) (lt-leb 16 (length before) few))
-    (ap (λ b. over_if b Arguments (k + 3 + 16)) (lt-leb 9 (length e.1) (omega arith))))
-
-listed_right : (before es : List Entry) (all : List Cell) (k : ℕ) → all ≡ map to_cell (before ++ es)
-    → T (is_sorted nat_cmp es) → length before + length es ≤ 16 → Each (λ (e : Entry). IsFine (to_cell e)) es
-    → Each (IsNew before) es → listed_flaw (cell_flaw all) cell_span (length before) k (map to_cell es) ≡ None
-listed_right before [] all k is sorted few fine new = refl
-listed_right before (e ∷ es) all k is sorted few fine new =
-    let parts = both_parts (below_all nat_cmp e.0 es) (is_sorted nat_cmp es) sorted in
-    let longer = one_longer before e in
-    let next = listed_right (before ++ e ∷ []) es all (k + cell_span (to_cell e))
-    (is ∙ ap (map to_cell) (sym (regroup before e es))) parts.1 (omega arith) fine.1
-    (still_new before e es parts.0 new.1) in
-    none_later (cell_flaw all (length before) k (to_cell e))
-    (listed_flaw (cell_flaw all) cell_span (suc (length before)) (k + cell_span (to_cell e)) (map to_cell es))
-    (ap (λ cs. cell_flaw cs (length before) k (to_cell e)) is
-    ∙ cell_right before (e ∷ es) k e (omega arith) fine.0 new.0)
-    (subst (λ (n : ℕ). listed_flaw (cell_flaw all) cell_span n (k + cell_span (to_cell e)) (map to_cell es) ≡ None)
-    longer next)
-
 none_before : (es : List Entry) → Each (IsNew []) es
 none_before [] = tt
 none_before (e ∷ es) = (refl, none_before es)
-
-pub cells_right : (h : Heap) (k : ℕ) → Each (λ (e : Entry). IsFine (to_cell e)) (entries h) → length (entries h) ≤ 16
-    → cells_flaw k (cells_tree h) ≡ None
-cells_right h k fine few = listed_right [] (entries h) (cells_tree h) k refl (entries_sorted h) (omega arith) fine
-    (none_before (entries h))
 
 -- each entry of cells is a cell again
 pub of_entries : (Q : Cell → Type 0) (cs : List Cell) → Each Q cs
@@ -219,12 +180,60 @@ pub of_entries : (Q : Cell → Type 0) (cs : List Cell) → Each Q cs
 of_entries Q [] all = tt
 of_entries Q (c ∷ cs) all = (all.0, of_entries Q cs all.1)
 
-pub sorted_right : (cs : List Cell) (k : ℕ) → Each IsFine cs → length cs ≤ 16
-    → cells_flaw k (cells_tree (cells_value cs)) ≡ None
-sorted_right cs k fine few =
-    let h = cells_value cs in
-    let kept = few_kept (map from_cell cs) in
-    let size = length-map cs from_cell in
-    let count = len-entries h in
-    cells_right h k (each_entry (λ (e : Entry). IsFine (to_cell e)) (map from_cell cs) (of_entries IsFine cs fine))
-    (omega arith)
+-- ---- within what is allowed
+
+module _ (most : Limits) where
+  -- the cell after some others
+  cell_right : (before es : List Entry) (k : ℕ) (e : Entry) → length before < most.cells → IsFine most (to_cell e) →
+      IsNew before e
+      → cell_flaw most (map to_cell (before ++ es)) (length before) k (to_cell e) ≡ None
+  cell_right before es k e few fine new =
+      let own : map address_of (take (length before) (map to_cell (before ++ es))) ≡ addresses before =
+      ap (λ cs. map address_of (take (length before) cs)) (trees_behind before es)
+      ∙ ap (λ n. map address_of (take n (map to_cell before ++ map to_cell es))) (sym (length-map before to_cell))
+      ∙ ap (map address_of) (front_taken (map to_cell before) (map to_cell es)) in
+      let short = fine.few in
+      none_later (address_flaw (map address_of (take (length before) (map to_cell (before ++ es)))) k e.0)
+      (or_later (over_if (nat_le most.cells (length before)) Cells k) (fields_flaw most (k + 3) e.1))
+      (ap (λ others. address_flaw others k e.0) own ∙ ap (λ b.
+      ill_if (b || list_any (nat_eq e.0) (addresses before)) Address k) fine.positive
+      ∙ ap (λ b. ill_if b Address k) new)
+      (none_later (over_if (nat_le most.cells (length before)) Cells k) (fields_flaw most (k + 3) e.1)
+      (ap (λ b. over_if b Cells k) (lt-leb most.cells (length before) few))
+      (ap (λ b. over_if b Arguments (k + 3 + 2 * most.arguments)) (le-ltb most.arguments (length e.1) short)))
+
+  listed_right : (before es : List Entry) (all : List Cell) (k : ℕ) → all ≡ map to_cell (before ++ es)
+      → T (is_sorted nat_cmp es) → length before + length es ≤ most.cells → Each
+      (λ (e : Entry). IsFine most (to_cell e)) es
+      → Each (IsNew before) es → listed_flaw (cell_flaw most all) cell_span (length before) k (map to_cell es) ≡ None
+  listed_right before [] all k is sorted few fine new = refl
+  listed_right before (e ∷ es) all k is sorted few fine new =
+      let parts = both_parts (below_all nat_cmp e.0 es) (is_sorted nat_cmp es) sorted in
+      let longer = one_longer before e in
+      let next = listed_right (before ++ e ∷ []) es all (k + cell_span (to_cell e))
+      (is ∙ ap (map to_cell) (sym (regroup before e es))) parts.1 (omega arith) fine.1
+      (still_new before e es parts.0 new.1) in
+      none_later (cell_flaw most all (length before) k (to_cell e))
+      (listed_flaw (cell_flaw most all) cell_span (suc (length before)) (k + cell_span (to_cell e)) (map to_cell es))
+      (ap (λ cs. cell_flaw most cs (length before) k (to_cell e)) is
+      ∙ cell_right before (e ∷ es) k e (omega arith) fine.0 new.0)
+      (subst (λ (n : ℕ). listed_flaw (cell_flaw most all) cell_span n (k + cell_span (to_cell e)) (map to_cell es) ≡
+      None)
+      longer next)
+
+  pub cells_right : (h : Heap) (k : ℕ) → Each (λ (e : Entry). IsFine most (to_cell e)) (entries h) → length (entries h)
+      ≤ most.cells
+      → cells_flaw most k (cells_tree h) ≡ None
+  cells_right h k fine few = listed_right [] (entries h) (cells_tree h) k refl (entries_sorted h) (omega arith) fine
+      (none_before (entries h))
+
+  pub sorted_right : (cs : List Cell) (k : ℕ) → Each (IsFine most) cs → length cs ≤ most.cells
+      → cells_flaw most k (cells_tree (cells_value cs)) ≡ None
+  sorted_right cs k fine few =
+      let h = cells_value cs in
+      let kept = few_kept (map from_cell cs) in
+      let size = length-map cs from_cell in
+      let count = len-entries h in
+      cells_right h k (each_entry (λ (e : Entry). IsFine most (to_cell e)) (map from_cell cs)
+      (of_entries (IsFine most) cs fine))
+      (omega arith)

@@ -29,5 +29,5 @@ cells-fit (c ∷ cs) = ×_prop Unit-prop (listed-fit some_cell comma semicolon c
 pub model-fit : HasOneFit model
 unfolding model body state question definitions
 model-fit m =
-    ×_prop Unit-prop (×_prop (many-fit definition definition-fit m.definitions)
-    (×_prop (×_prop (values-fit m.stack) (cells-fit m.cells)) (heap-fit false m.ask)))
+    ×_prop Unit-prop (×_prop Unit-prop (×_prop (many-fit definition definition-fit m.definitions)
+    (×_prop (×_prop (values-fit m.stack) (cells-fit m.cells)) (heap-fit false m.ask))))

@@ -1,14 +1,15 @@
 -- The grammar of model files.
 use Rattle.std.specs.Prelude.{ℕ, false, List, [], ◌∷◌, codes}
-use Rattle.cyc_grammar.specs.Syntax.{Syntax, Class, one, seq, shaped, after, before, or_empty}
+use Rattle.cyc_grammar.specs.Syntax.{Syntax, Class, one, seq, shaped, after, before, headed, or_empty}
 use Rattle.cyc_grammar.specs.Classes.{keyword, the_end, number}
 use Rattle.heap_syntax.specs.Words.{cyclist_word, comma, semicolon, arrow, opening, closing, last_word}
-use Rattle.heap_syntax.specs.Versions.{first_version}
 unfoldable pub use Rattle.heap_syntax.specs.Grammar.{listed}
 use Rattle.heap_syntax.specs.Grammar.{Any}
 use Rattle.heap_syntax.specs.DefinitionGrammar.{terms, heap, definitions}
 use Rattle.heap_syntax.specs.DefinitionTrees.{Heap, Definition}
+use Rattle.model_file.specs.declared.version.ModelVersion.{ModelVersion}
 use Rattle.model_file.specs.Trees.{Cell, Model}
+use Rattle.model_file.specs.Versions.{model_version}
 
 -- ---- words
 
@@ -55,7 +56,7 @@ cells1 = listed some_cell comma semicolon cell
 unfoldable pub cells : Syntax (List Cell)
 cells = or_empty semicolon cells1
 
--- ---- model = "cyclist" "model" "1" ";" { pred } "stack" values "heap" cells "ask" heap ";" "end" ";", and the end of the text
+-- ---- model = "cyclist" "model" version ";" { pred } "stack" values "heap" cells "ask" heap ";" "end" ";", and the end of the text
 
 -- "ask" heap ";" "end"
 unfoldable pub question : Syntax Heap
@@ -65,16 +66,19 @@ question = after ask_word (before (before (heap (terms false)) semicolon) last_w
 unfoldable pub state : Syntax (List ℕ × List Cell)
 state = after stack_word (seq values (after heap_word cells))
 
-abbrev pub to_model : List Definition × ((List ℕ × List Cell) × Heap) → Model
-to_model p = record { definitions = p.0; stack = p.1.0.0; cells = p.1.0.1; ask = p.1.1 }
+abbrev pub to_model : (v : ModelVersion) × (List Definition × ((List ℕ × List Cell) × Heap)) → Model
+to_model p = record { version = p.0; definitions = p.1.0; stack = p.1.1.0.0; cells = p.1.1.0.1; ask = p.1.1.1 }
 
-abbrev pub from_model : Model → List Definition × ((List ℕ × List Cell) × Heap)
-from_model m = (m.definitions, ((m.stack, m.cells), m.ask))
+abbrev pub from_model : Model → (v : ModelVersion) × (List Definition × ((List ℕ × List Cell) × Heap))
+from_model m = (m.version, (m.definitions, ((m.stack, m.cells), m.ask)))
+
+-- what stands after the version
+abbrev pub contents : ModelVersion → Syntax (List Definition × ((List ℕ × List Cell) × Heap))
+contents v = after semicolon (seq definitions (seq state (before question semicolon)))
 
 unfoldable pub body : Syntax Model
-body = shaped {A = List Definition × ((List ℕ × List Cell) × Heap)} to_model from_model Any
-    (after cyclist_word (after model_word (after first_version
-    (after semicolon (seq definitions (seq state (before question semicolon)))))))
+body = shaped {A = (v : ModelVersion) × (List Definition × ((List ℕ × List Cell) × Heap))} to_model from_model Any
+    (after cyclist_word (after model_word (headed model_version contents)))
 
 unfoldable pub model : Syntax Model
 model = before body the_end

@@ -1,3 +1,4 @@
+pub mod Versions
 pub mod Spans
 pub mod Flaws
 pub mod Values

@@ -1,6 +1,5 @@
 -- What reading a model file answers.
 use Rattle.std.specs.Prelude.{◌≡◌, ℕ, List, map, Result}
-use Rattle.cyc_basics.specs.declared.limits.TheConstants.{MOST_SPATIAL}
 use Rattle.cyc_lex.specs.declared.fault.ReadFault.{ReadFault}
 use Rattle.cyc_lex.specs.Placed.{Placed}
 use Rattle.heap_reader.specs.Reading as reading
@@ -10,12 +9,13 @@ use Rattle.heap_reader.specs.DefinitionValues.{term_value, definition_value}
 use Rattle.model_file.specs.Trees as trees
 use Rattle.model_file.specs.Grammar.{model}
 use Rattle.model_file.specs.declared.file.Model.{Model}
-use Rattle.model_file.specs.Flaws.{model_flaw}
+use Rattle.model_file.specs.Flaws.{allowed, model_flaw}
 use Rattle.model_file.specs.Values.{cells_value}
 
 -- the model that a tree says
 pub record IsModelOf (tree : trees.Model) (m : Model) : Type 0 where
-  pub most : m.defs.most ≡ MOST_SPATIAL
+  pub version : m.version ≡ tree.version
+  pub most : m.defs.most ≡ allowed tree
   pub definitions : m.defs.list ≡ map (definition_value (headings tree.definitions)) tree.definitions
   pub stack : m.stack ≡ tree.stack
   pub heap : m.heap ≡ cells_value tree.cells
@@ -35,8 +35,9 @@ Reads = reading.Reads model_files
 abbrev pub ReadsFrom : List Placed → Result Model ReadFault → Type 0
 ReadsFrom = reading.ReadsFrom model_files
 
--- two models have the same definitions, stack, heap and formula
+-- two models have one version, and the same definitions, stack, heap and formula
 pub record AreSame (m n : Model) : Type 0 where
+  pub version : m.version ≡ n.version
   pub most : m.defs.most ≡ n.defs.most
   pub definitions : m.defs.list ≡ n.defs.list
   pub stack : m.stack ≡ n.stack

@@ -1,6 +1,7 @@
 -- Trees without where they lie in memory.
 use Rattle.std.specs.Prelude.{ℕ, List, map}
 use Rattle.heap_syntax.specs.DefinitionTrees.{Heap, Definition, heap_of, definition_of}
+use Rattle.model_file.specs.declared.version.ModelVersion.{ModelVersion}
 use Rattle.model_file.specs.declared.syntax.tree.CellTree.{CellTree}
 use Rattle.model_file.specs.declared.syntax.tree.ModelTree.{ModelTree}
 
@@ -9,6 +10,7 @@ pub record Cell : Type 0 where
   pub fields : List ℕ
 
 pub record Model : Type 0 where
+  pub version : ModelVersion
   pub definitions : List Definition
   pub stack : List ℕ
   pub cells : List Cell
@@ -21,6 +23,7 @@ cell_of c = record { address = c.address; fields = c.fields.items }
 
 abbrev pub model_of : ModelTree → Model
 model_of m = record {
+  version = m.version;
   definitions = map definition_of m.definitions.items;
   stack = m.stack.items;
   cells = map cell_of m.cells.items;

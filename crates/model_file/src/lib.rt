@@ -7,9 +7,11 @@ mod file;
 mod reading;
 pub mod syntax;
 mod trees;
+mod version;
 mod walk;
 mod writing;
 
 pub use file::Model;
 pub use reading::read_model;
+pub use version::{ModelVersion, read_model_version, write_model_version};
 pub use writing::{bytes_spell_one_model, write_model, written_models_are_read_again};

@@ -11,7 +11,6 @@ use crate::cell_values::{cells, wide_numbers};
 use crate::file::Model;
 use crate::syntax::{ModelTree, read_tree};
 use crate::walk::model_flaw;
-use cyc_basics::limits::MOST_SPATIAL;
 use cyc_basics::memory::OutOfMemory;
 use cyc_lex::{ReadFault, Tokens, tokens};
 use goto_lang::Stack;
@@ -32,11 +31,12 @@ fn model_of_tree(
     ensures { IfOk result (IsModelOf (model_of tree.now)) }
 {
     let definitions = definition_values(alloc, heads, &tree.definitions)?;
-    let defs = Defs::from_vec(alloc, MOST_SPATIAL as u8, definitions);
+    let defs = Defs::from_vec(alloc, tree.version.limits(), definitions);
     let stack = Stack::from_vec(wide_numbers(alloc, &tree.stack)?);
     let heap = cells(alloc, &tree.cells)?;
     let ask = heap_value(alloc, heads, &Scope::Outside, &tree.ask)?;
     Ok(Model {
+        version: tree.version,
         defs,
         stack,
         heap,

@@ -59,7 +59,8 @@ fn cells(alloc: Global, heap: &Cells) -> Result<Vec<CellTree>, OutOfMemory>
 
 /// The tree of a model.
 pub fn model_tree<'a>(alloc: Global, model: &'a Model) -> Result<ModelTree<'a>, OutOfMemory>
-    ensures { IfOk result (λ t. model_of t ≡ tree_of model.now.defs.list model.now.stack model.now.heap model.now.ask) }
+    ensures { IfOk result (λ t. model_of t
+        ≡ tree_of model.now.version model.now.defs.list model.now.stack model.now.heap model.now.ask) }
 {
     let defs = model.defs.as_slice();
     let definitions = definition_trees(alloc, defs)?;
@@ -67,6 +68,7 @@ pub fn model_tree<'a>(alloc: Global, model: &'a Model) -> Result<ModelTree<'a>, 
     let cells = cells(alloc, &model.heap)?;
     let ask = heap_tree(alloc, defs, &model.ask)?;
     Ok(ModelTree {
+        version: model.version,
         definitions,
         stack,
         cells,

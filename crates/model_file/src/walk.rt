@@ -10,10 +10,11 @@ ghost use Rattle.heap_reader.specs.DefinitionFlaws.{headings};
 ghost use Rattle.model_file.specs.Trees.{cell_of, model_of};
 ghost use Rattle.model_file.specs.Spans.{numbers_span, values_span, cell_span, cells_span};
 ghost use Rattle.model_file.specs.Flaws.{address_of, stack_flaw, fields_flaw, address_flaw, cell_flaw, cells_flaw};
-ghost use Rattle.model_file.specs.Flaws.{first_value, first_atom, model_flaw as first_flaw, behind_definitions_flaw};
+ghost use Rattle.model_file.specs.Flaws.{allowed, first_value, first_atom, behind_definitions_flaw};
+ghost use Rattle.model_file.specs.Flaws.{model_flaw as first_flaw};
 
 use crate::syntax::{CellTree, ModelTree};
-use cyc_basics::limits::{MOST_ARGUMENTS, MOST_CELLS, MOST_SPATIAL, MOST_VALUES};
+use cyc_basics::limits::{Limits, MOST_VALUES};
 use cyc_lex::{IllFault, What};
 use heap_reader::definitions::{Scope, walk_definitions};
 use heap_reader::{Flaw, Heads, ill, over, walk_heap};
@@ -33,12 +34,13 @@ fn stack(at: usize, values: &[u32]) -> Result<usize, Flaw>
 }
 
 /// The fields of a cell and the parenthesis.
-fn fields(at: usize, values: &[u32]) -> Result<usize, Flaw>
+fn fields(most: Limits, at: usize, values: &[u32]) -> Result<usize, Flaw>
     requires { at + numbers_span values.now < 2 ^ 64 }
-    ensures { IsWalk result (fields_flaw at values.now) (at + numbers_span values.now) }
+    ensures { IsWalk result (fields_flaw most at values.now) (at + numbers_span values.now) }
 {
-    if values.len() > MOST_ARGUMENTS {
-        return Err(over(What::Arguments, at + 16));
+    let arguments = most.arguments as usize;
+    if values.len() > arguments {
+        return Err(over(What::Arguments, at + 2 * arguments));
     }
     Ok(at + 2 * values.len())
 }
@@ -70,59 +72,66 @@ fn address(cells: &[CellTree], n: usize, at: usize, address: u32) -> Result<(), 
 }
 
 /// The cell before which n of all stand.
-fn cell(cells: &[CellTree], n: usize, at: usize, tree: &CellTree) -> Result<usize, Flaw>
+fn cell(
+    most: Limits,
+    cells: &[CellTree],
+    n: usize,
+    at: usize,
+    tree: &CellTree,
+) -> Result<usize, Flaw>
     requires there { n < length cells.now }
     requires fits { at + cell_span (cell_of tree.now) < 2 ^ 64 }
-    ensures { IsWalk result (cell_flaw (map cell_of cells.now) n at (cell_of tree.now))
+    ensures { IsWalk result (cell_flaw most (map cell_of cells.now) n at (cell_of tree.now))
         (at + cell_span (cell_of tree.now)) }
 {
     address(cells, n, at, tree.address)?;
-    if n >= MOST_CELLS {
+    if n >= most.cells as usize {
         return Err(over(What::Cells, at));
     }
-    let behind = fields(at + 3, &tree.fields)?;
+    let behind = fields(most, at + 3, &tree.fields)?;
     Ok(behind + 1)
 }
 
-fn some_cells(at: usize, trees: &[CellTree]) -> Result<usize, Flaw>
+fn some_cells(most: Limits, at: usize, trees: &[CellTree]) -> Result<usize, Flaw>
     requires { at + total cell_span (map cell_of trees.now) < 2 ^ 64 }
-    ensures { IsWalk result (cells_flaw at (map cell_of trees.now)) (at + total cell_span (map cell_of trees.now)) }
+    ensures { IsWalk result (cells_flaw most at (map cell_of trees.now))
+        (at + total cell_span (map cell_of trees.now)) }
 {
     let mut next = at;
     for (n, tree) in trees.iter().enumerate() {
-        next = cell(trees, n, next, tree)?;
+        next = cell(most, trees, n, next, tree)?;
     }
     Ok(next)
 }
 
 /// The cells of the heap and the semicolon.
-fn cells(at: usize, trees: &[CellTree]) -> Result<usize, Flaw>
+fn cells(most: Limits, at: usize, trees: &[CellTree]) -> Result<usize, Flaw>
     requires { at + cells_span (map cell_of trees.now) < 2 ^ 64 }
-    ensures { IsWalk result (cells_flaw at (map cell_of trees.now)) (at + cells_span (map cell_of trees.now)) }
+    ensures { IsWalk result (cells_flaw most at (map cell_of trees.now)) (at + cells_span (map cell_of trees.now)) }
 {
     match trees {
         [] => Ok(at + 1),
-        _ => some_cells(at, trees),
+        _ => some_cells(most, at, trees),
     }
 }
 
 /// The stack, the heap and the formula, the first of which begins at a token.
-fn behind_definitions(heads: &Heads<'_>, at: usize, tree: &ModelTree<'_>) -> Result<usize, Flaw>
+fn behind_definitions(
+    heads: &Heads<'_>,
+    most: Limits,
+    at: usize,
+    tree: &ModelTree<'_>,
+) -> Result<usize, Flaw>
     requires known { heads.now ≡ headings (model_of tree.now).definitions }
+    requires limits { most ≡ allowed (model_of tree.now) }
     requires place { at + 1 ≡ first_value (model_of tree.now) }
     requires fits { first_atom (model_of tree.now) + heap_span term_span (model_of tree.now).ask < 2 ^ 64 }
     ensures { IsWalk result (behind_definitions_flaw (model_of tree.now))
         (first_atom (model_of tree.now) + heap_span term_span (model_of tree.now).ask) }
 {
     let behind_stack = stack(at + 1, &tree.stack)?;
-    let behind_cells = cells(behind_stack + 1, &tree.cells)?;
-    walk_heap(
-        heads,
-        &Scope::Outside,
-        MOST_SPATIAL as u8,
-        behind_cells + 1,
-        &tree.ask,
-    )
+    let behind_cells = cells(most, behind_stack + 1, &tree.cells)?;
+    walk_heap(heads, &Scope::Outside, most, behind_cells + 1, &tree.ask)
 }
 
 /// All parts, from the fourth token on.
@@ -132,8 +141,9 @@ fn parts(heads: &Heads<'_>, tree: &ModelTree<'_>) -> Result<usize, Flaw>
     ensures { IsWalk result (first_flaw (model_of tree.now))
         (first_atom (model_of tree.now) + heap_span term_span (model_of tree.now).ask) }
 {
-    let behind = walk_definitions(heads, MOST_SPATIAL as u8, 4, &tree.definitions)?;
-    behind_definitions(heads, behind, tree)
+    let most = tree.version.limits();
+    let behind = walk_definitions(heads, most, 4, &tree.definitions)?;
+    behind_definitions(heads, most, behind, tree)
 }
 
 /// The first flaw of a model file, by its token; the heads are those of its definitions.

@@ -15,7 +15,7 @@ use std::alloc::Global;
 /// neighbours but where the format has none, and a line feed after each `;`.
 pub fn write_model(alloc: Global, model: &Model) -> Result<Vec<u8>, OutOfMemory>
     ensures text { IfOk result (λ bytes. bytes.items
-        ≡ text_of_model model.now.defs.list model.now.stack model.now.heap model.now.ask) }
+        ≡ text_of_model model.now.version model.now.defs.list model.now.stack model.now.heap model.now.ask) }
     ensures spells { IfOk result (λ bytes. IsRead bytes.items (Ok model.now)) }
 {
     let tree = model_tree(alloc, model)?;
@@ -25,7 +25,7 @@ pub fn write_model(alloc: Global, model: &Model) -> Result<Vec<u8>, OutOfMemory>
 /// Whatever is read of a model's text is that model, unless memory runs out. The function does nothing.
 pub fn written_models_are_read_again()
     ensures { (m : TheModel) (bytes : List ℕ) (answer : Result TheModel ReadFault)
-        → bytes ≡ text_of_model m.defs.list m.stack m.heap m.ask → Reads bytes answer
+        → bytes ≡ text_of_model m.version m.defs.list m.stack m.heap m.ask → Reads bytes answer
         → IsReadAgain m answer }
 {}
 

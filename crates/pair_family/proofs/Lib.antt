@@ -27,3 +27,4 @@ pub mod Growing
 pub mod Interned
 pub mod Sized
 pub mod Relabelling
+pub mod Near

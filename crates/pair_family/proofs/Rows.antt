@@ -5,6 +5,7 @@ use Rattle.std.specs.Prelude.{if◌then◌else◌, nat_eq, slice_index}
 use Rattle.std.proofs.lemmas.Bool.{cases_Bool, eqb-true}
 use Rattle.pair_family.specs.Combination.{upto, pairs_below}
 use Rattle.pair_family.specs.Labels.{relabelled, row, has_same, neighbours, has_difference, is_between_labels}
+use Rattle.pair_family.specs.Labels.{joined_labels, label_pairs}
 use Rattle.pair_family.proofs.ByAtom.{append_three}
 use Rattle.std.proofs.lemmas.List.{map-append}
 use Rattle.std.specs.List.{list_any}
@@ -17,7 +18,7 @@ filter_append t (x ∷ xs) ys =
     let rest = filter_append t xs ys in
     elim (cases_Bool (t x)) [ inl y ↦ rw y (ap (λ z. x ∷ z) rest) | inr n ↦ rw n rest ]
 
-row_next : (t : ℕ × ℕ → Bool) (j i : ℕ) → filter t (row j (i + 1)) ≡ filter t (row j i)
+pub row_next : (t : ℕ × ℕ → Bool) (j i : ℕ) → filter t (row j (i + 1)) ≡ filter t (row j i)
     ++ (if t (i, j) then (i, j) ∷ [] else [])
 row_next t j i =
     let e : i + 1 ≡ suc i = omega arith in
@@ -111,3 +112,15 @@ joined_alone old new [] e = refl
 joined_alone old new (l ∷ labels) e =
     let here : l ≡ relabelled old new l = sym (label_same old l) ∙ ap (λ z. if nat_eq l old then z else l) e in
     let rest = joined_alone old new labels e in λ i. here i ∷ rest i
+
+-- equations one list after the other
+pub joined_append : (labels : List ℕ) (qs rs : List (ℕ × ℕ))
+    → joined_labels labels (qs ++ rs) ≡ joined_labels (joined_labels labels qs) rs
+joined_append labels [] rs = refl
+joined_append labels (q ∷ qs) rs = joined_append (map (relabelled (slice_index labels q.1) (slice_index labels q.0))
+    labels) qs rs
+
+-- the labels of pairs one list after the other
+pub label_pairs_append : (labels : List ℕ) (qs rs : List (ℕ × ℕ))
+    → label_pairs labels (qs ++ rs) ≡ label_pairs labels qs ++ label_pairs labels rs
+label_pairs_append labels qs rs = map-append (λ q. (slice_index labels q.0, slice_index labels q.1)) qs rs

@@ -1,5 +1,5 @@
 -- What `==` computes of two base pairs.
-use Rattle.std.specs.Prelude.{◌≡◌, ℕ, Bool, true, ◌++◌, ◌&&◌, nat_eq, refl}
+use Rattle.std.specs.Prelude.{◌≡◌, ℕ, Bool, true, ◌++◌, ◌&&◌, ◌+◌, ◌*◌, ◌%◌, ◌^◌, List, [], ◌∷◌, nat_eq, refl}
 use Rattle.std.proofs.Common.{subst, ap}
 use Rattle.std.proofs.lemmas.Bool.{and_parts, and_from, eqb-true, eq-eqb}
 use Rattle.std.specs.Bool.{Decides}
@@ -54,11 +54,28 @@ base_pair_per = partial_equiv_from_equiv base_pair_equiv
 
 -- ---- what `hash` feeds
 
-abbrev pub two_writes : ℕ × ℕ → HashWrites
-two_writes q = fed.usize q.0 ++ fed.usize q.1
+-- a digest after one more number
+abbrev pub with_number : ℕ → ℕ → ℕ
+with_number h n = (h + n) % 2 ^ 64 * 11400714819323198485 % 2 ^ 64
+
+-- a digest of numbers, and of pairs, in their order, after what was digested before
+abbrev pub digest_from : ℕ → List ℕ → ℕ
+digest_from h [] = h
+digest_from h (n ∷ ns) = digest_from (with_number h n) ns
+
+abbrev pub numbers_digest : List ℕ → ℕ
+numbers_digest ns = digest_from 0 ns
+
+abbrev pub pairs_digest_from : ℕ → List (ℕ × ℕ) → ℕ
+pairs_digest_from h [] = h
+pairs_digest_from h (q ∷ qs) = pairs_digest_from (with_number (with_number h q.0) q.1) qs
+
+abbrev pub pairs_digest : List (ℕ × ℕ) → ℕ
+pairs_digest qs = pairs_digest_from 0 qs
 
 abbrev pub base_pair_writes : BasePair → HashWrites
-base_pair_writes b = fed.slice two_writes b.same ++ (fed.slice two_writes b.differ ++ fed.slice fed.usize b.cells)
+base_pair_writes b = fed.u64 (pairs_digest b.same)
+    ++ (fed.u64 (pairs_digest b.differ) ++ fed.u64 (numbers_digest b.cells))
 
 pub base_pair_alike : (a b : BasePair) → base_pair_eq a b ≡ true → base_pair_writes a ≡ base_pair_writes b
 base_pair_alike a b h = ap base_pair_writes (pair_same a b h)

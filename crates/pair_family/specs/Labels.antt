@@ -1,7 +1,9 @@
 -- What labels say: each kept term's class is told by a label, equal for terms of one class.
 use Rattle.std.specs.Prelude.{◌≡◌, ◌≢◌, ◌+◌, ◌↔◌, ◌⊎◌, ℕ, List, [], ◌∷◌, ◌++◌, map, filter, not, ◌&&◌, ◌||◌, Bool, true}
 use Rattle.std.specs.Prelude.{false, nat_eq, slice_index, if◌then◌else◌, length, Option, MatchOption}
+use Rattle.std.specs.Prelude.{◌<◌, get_or}
 use Rattle.std.specs.List.{list_any}
+use Rattle.cyc_basics.specs.Bits.{is_one}
 use Rattle.heap_formula.specs.Words.{Each, OneOf}
 use Rattle.pair_family.specs.BasePairs.{BasePair}
 use Rattle.pair_family.specs.LargeCases.{sizes}
@@ -20,6 +22,15 @@ is_between_labels a b d = (nat_eq d.0 a && nat_eq d.1 b) || (nat_eq d.0 b && nat
 
 abbrev pub has_difference : List ℕ → List (ℕ × ℕ) → ℕ × ℕ → Bool
 has_difference labels ds q = list_any (is_between_labels (slice_index labels q.0) (slice_index labels q.1)) ds
+
+-- masks for the labels below 64: at each, those that differences join with it
+pub record AreNear (ds : List (ℕ × ℕ)) (near : List ℕ) : Type 0 where
+  pub long : length near ≡ 64
+  pub right : (p q : ℕ) → p < 64 → q < 64 → is_one (get_or near p 0) q ≡ list_any (is_between_labels q p) ds
+
+-- each label is below 64
+pub record AreSmall (labels : List ℕ) : Type 0 where
+  pub below : (i : ℕ) → i < length labels → slice_index labels i < 64
 
 -- the labels that differences join with a label
 abbrev pub neighbours : ℕ → List (ℕ × ℕ) → List ℕ

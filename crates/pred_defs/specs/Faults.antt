@@ -3,11 +3,12 @@ use Rattle.std.specs.Prelude.{◌≡◌, ℕ, List, [], ◌∷◌, length, Bool,
 use Rattle.std.specs.Prelude.{Option, Some, None, slice_get, Result, Ok, Err}
 use Rattle.std.specs.Str.{bytes_eq}
 use Rattle.std.specs.List.{list_any}
-use Rattle.cyc_basics.specs.declared.limits.TheConstants.{MOST_ARGUMENTS, MOST_CASES, MOST_LOCALS, MOST_PREDICATES}
+use Rattle.cyc_basics.specs.declared.limits.Limits.{Limits}
+use Rattle.cyc_basics.specs.declared.limits.TheConstants.{MOST_PREDICATES}
 use Rattle.heap_formula.specs.declared.atoms.Spatial.{Spatial}
 use Rattle.heap_formula.specs.declared.atoms.Spatial.TheVariants.{Cell, Pred}
 use Rattle.heap_formula.specs.declared.heaps.Count.TheVariants.{Predicates, Arguments, Cases, Spatial as SpatialAtoms}
-use Rattle.heap_formula.specs.declared.heaps.Count.TheVariants.{Locals}
+use Rattle.heap_formula.specs.declared.heaps.Count.TheVariants.{Locals, Pure as PureAtoms}
 use Rattle.heap_formula.specs.Symbolic.{SymbolicHeap}
 use Rattle.heap_formula.specs.Definitions.{Definition}
 use Rattle.heap_formula.specs.Fresh.{heap_bound, heap_exists}
@@ -21,13 +22,17 @@ abbrev pub has_name : List Definition → List ℕ → Bool
 has_name [] name = false
 has_name (d ∷ ds) name = bytes_eq d.name name || has_name ds name
 
--- a case has more than this many spatial atoms
-abbrev pub is_long : ℕ → SymbolicHeap → Bool
-is_long most case = nat_lt most (length case.spatial)
+-- a case has too many pure atoms
+abbrev pub has_many_pures : Limits → SymbolicHeap → Bool
+has_many_pures most case = nat_lt most.pure (length case.pure)
 
--- a case has a local past the sixteenth
-abbrev pub has_far_local : SymbolicHeap → Bool
-has_far_local case = nat_lt MOST_LOCALS (heap_exists case)
+-- a case has too many spatial atoms
+abbrev pub is_long : Limits → SymbolicHeap → Bool
+is_long most case = nat_lt most.spatial (length case.spatial)
+
+-- a case has a local past the last that it may have
+abbrev pub has_far_local : Limits → SymbolicHeap → Bool
+has_far_local most case = nat_lt most.locals (heap_exists case)
 
 -- a case has a universal variable that is no parameter
 abbrev pub has_stranger : ℕ → SymbolicHeap → Bool
@@ -38,10 +43,11 @@ abbrev pub push_fault : DefinitionBook → List ℕ → ℕ → List SymbolicHea
 push_fault book name arity cases =
     if has_name book.list name then Some Duplicate
     else if nat_le MOST_PREDICATES (length book.list) then Some (Limit Predicates)
-    else if nat_lt MOST_ARGUMENTS arity then Some (Limit Arguments)
-    else if nat_lt MOST_CASES (length cases) then Some (Limit Cases)
+    else if nat_lt book.most.arguments arity then Some (Limit Arguments)
+    else if nat_lt book.most.cases (length cases) then Some (Limit Cases)
+    else if list_any (has_many_pures book.most) cases then Some (Limit PureAtoms)
     else if list_any (is_long book.most) cases then Some (Limit SpatialAtoms)
-    else if list_any has_far_local cases then Some (Limit Locals)
+    else if list_any (has_far_local book.most) cases then Some (Limit Locals)
     else if list_any (has_stranger arity) cases then Some Parameter
     else None
 

@@ -2,34 +2,36 @@
 ghost use Rattle.std.specs.Prelude.{◌≡◌, ◌≢◌, ◌≤◌, ◌<◌, ◌++◌, ◌∷◌, [], length, Some, OnOk, OnErr, IfOk, IsOkUnless};
 ghost use Rattle.std.specs.List.{list_any};
 ghost use Rattle.heap_formula.specs.Meaning.{cases_of};
-ghost use Rattle.pred_defs.specs.Faults.{first_fault, has_name as list_has_name, is_long, has_far_local, has_stranger};
+ghost use Rattle.pred_defs.specs.Faults.{first_fault, has_name as list_has_name, is_long, has_many_pures, has_far_local, has_stranger};
+ghost use Rattle.cyc_basics.specs.Limits.{AreLimits};
 ghost use Rattle.pred_defs.specs.Faults.{push_fault, use_fault, case_fault, closed_fault, IsRefusal};
 
 use crate::faults::DefFault;
-use cyc_basics::limits::{MOST_ARGUMENTS, MOST_CASES, MOST_LOCALS, MOST_PREDICATES, MOST_SPATIAL};
+use cyc_basics::limits::{Limits, MOST_PREDICATES};
 use heap_formula::{Cases, Count, Def, DefName, Heap, Spatial, bound_of_heap, exists_in_heap};
 use std::alloc::{AllocError, Global};
 use std::marker::Model;
 
-/// Inductive definitions in the order of their numbers, and how many spatial atoms a case may have. No two have one
-/// name; what else `push` refuses is in none of them.
+/// Inductive definitions in the order of their numbers, and the limits that they keep. No two have one name; what else
+/// `push` refuses is in none of them.
 #[derive(Drop)]
 pub struct Defs {
     alloc: Global,
-    most: u8,
+    most: Limits,
     items: Vec<Def>,
 }
 
 impl Model for Defs {
     ghost use Rattle.pred_defs.specs.Book.{DefinitionBook};
     ghost use Rattle.std.specs.Prelude.{length, ◌≤◌};
-    ghost use Rattle.cyc_basics.specs.declared.limits.TheConstants.{MOST_PREDICATES, MOST_SPATIAL};
+    ghost use Rattle.cyc_basics.specs.Limits.{AreLimits};
+    ghost use Rattle.cyc_basics.specs.declared.limits.TheConstants.{MOST_PREDICATES};
 
     ghost Value = { DefinitionBook };
 
     ghost view = { λ d. record { most = d.most; list = d.items.items } };
 
-    ghost invariant = { λ d. (d.most ≤ MOST_SPATIAL) × (length d.items.items ≤ MOST_PREDICATES) };
+    ghost invariant = { λ d. AreLimits d.most × (length d.items.items ≤ MOST_PREDICATES) };
 }
 
 impl Clone for Defs {
@@ -46,9 +48,9 @@ impl Clone for Defs {
 }
 
 impl Defs {
-    /// No definitions. `most` is the greatest number of spatial atoms of a heap, 16 or 32 by the format's version.
-    pub fn new(alloc: Global, most: u8) -> Defs
-        requires { most ≤ MOST_SPATIAL }
+    /// No definitions. `most` are the limits of the format's version.
+    pub fn new(alloc: Global, most: Limits) -> Defs
+        requires { AreLimits most }
         ensures { result ≡ record { most = most; list = [] } }
     {
         Defs {
@@ -58,17 +60,17 @@ impl Defs {
         }
     }
 
-    /// The greatest number of spatial atoms of a heap.
-    pub fn most(&self) -> u8
+    /// The limits that the definitions keep.
+    pub fn most(&self) -> Limits
         ensures value { result ≡ self.now.most }
-        ensures fits { self.now.most ≤ MOST_SPATIAL }
+        ensures fits { AreLimits self.now.most }
     {
         self.most
     }
 
-    /// Sets the greatest number of spatial atoms of a heap, 16 or 32 by the format's version; takes no memory.
-    pub fn set_most(&mut self, most: u8)
-        requires { most ≤ MOST_SPATIAL }
+    /// Sets the limits, which those of a wider version of the format are; takes no memory.
+    pub fn set_most(&mut self, most: Limits)
+        requires { AreLimits most }
         ensures { self.new ≡ record { most = most; list = self.old.list } }
     {
         self.most = most;
@@ -161,22 +163,33 @@ fn has_name(defs: &[Def], name: &str) -> bool
     false
 }
 
-fn some_is_long(most: usize, cases: &[Heap]) -> bool
-    ensures { result ≡ list_any (is_long most) cases.now }
+fn some_has_many_pures(most: Limits, cases: &[Heap]) -> bool
+    ensures { result ≡ list_any (has_many_pures most) cases.now }
 {
     for case in cases {
-        if case.spatial().len() > most {
+        if case.pure().len() > most.pure as usize {
             return true;
         }
     }
     false
 }
 
-fn some_has_far_local(cases: &[Heap]) -> bool
-    ensures { result ≡ list_any has_far_local cases.now }
+fn some_is_long(most: Limits, cases: &[Heap]) -> bool
+    ensures { result ≡ list_any (is_long most) cases.now }
 {
     for case in cases {
-        if exists_in_heap(case) > MOST_LOCALS {
+        if case.spatial().len() > most.spatial as usize {
+            return true;
+        }
+    }
+    false
+}
+
+fn some_has_far_local(most: Limits, cases: &[Heap]) -> bool
+    ensures { result ≡ list_any (has_far_local most) cases.now }
+{
+    for case in cases {
+        if exists_in_heap(case) > most.locals {
             return true;
         }
     }
@@ -203,16 +216,20 @@ fn fault_of_push(defs: &Defs, name: &str, arity: u32, cases: &[Heap]) -> Option<
     if defs.as_slice().len() >= MOST_PREDICATES {
         return Some(DefFault::Limit(Count::Predicates));
     }
-    if arity > MOST_ARGUMENTS as u32 {
+    let most = defs.most();
+    if arity > most.arguments {
         return Some(DefFault::Limit(Count::Arguments));
     }
-    if cases.len() > MOST_CASES {
+    if cases.len() > most.cases as usize {
         return Some(DefFault::Limit(Count::Cases));
     }
-    if some_is_long(defs.most() as usize, cases) {
+    if some_has_many_pures(most, cases) {
+        return Some(DefFault::Limit(Count::Pure));
+    }
+    if some_is_long(most, cases) {
         return Some(DefFault::Limit(Count::Spatial));
     }
-    if some_has_far_local(cases) {
+    if some_has_far_local(most, cases) {
         return Some(DefFault::Limit(Count::Locals));
     }
     if some_has_stranger(arity, cases) {
@@ -292,8 +309,8 @@ impl Defs {
 
 impl Defs {
     /// The definitions in this order, without a copy. The caller has seen to what `push` would refuse.
-    pub fn from_vec(alloc: Global, most: u8, items: Vec<Def>) -> Defs
-        requires fits { most ≤ MOST_SPATIAL }
+    pub fn from_vec(alloc: Global, most: Limits, items: Vec<Def>) -> Defs
+        requires fits { AreLimits most }
         requires few { length items.items ≤ MOST_PREDICATES }
         ensures { result ≡ record { most = most; list = items.items } }
     {

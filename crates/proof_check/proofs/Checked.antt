@@ -2,6 +2,7 @@
 use Rattle.std.proofs.Common.{◌≡◌, ℕ, ◌<◌, List, Some}
 use Rattle.std.specs.Prelude.{slice_get}
 use Rattle.std.proofs.lemmas.Option.{slice_get_within}
+use Rattle.cyc_basics.specs.declared.limits.Limits.{Limits}
 use Rattle.heap_formula.specs.declared.commands.Command.{Command}
 use Rattle.heap_formula.specs.Definitions.{Definition, HasFewCases}
 use Rattle.heap_formula.specs.Words.{Each}
@@ -21,7 +22,7 @@ use Rattle.proof_check.specs.Files.{Node, graph_of, AreRight, AreReadable, HasSm
 use Rattle.proof_check.specs.Verdicts.{Verdict, logic_of, IsVerdict}
 use Rattle.proof_check.proofs.Readable.{may_stand}
 
-pub correct_holds : (most : ℕ) (ds : List Definition) (lines : List Command) (nodes : List Node) (root : Node)
+pub correct_holds : (most : Limits) (ds : List Definition) (lines : List Command) (nodes : List Node) (root : Node)
     → Each IsCommand lines → Each HasFewCases ds → HasSmallHeaps nodes → AreReadable nodes
     → AreRight most ds lines nodes → slice_get nodes 0 ≡ Some root → AllProgress (graph_of most ds lines nodes)
     → JudgementHolds ds lines root.judgement

@@ -1,7 +1,12 @@
--- A file and its upgrade are correct together, and have one trace graph then.
+-- A file and the same file of a wider version are correct together, and have one trace graph then.
 use Rattle.std.proofs.Common.{◌≡◌, ℕ, suc, ◌≤◌, true, List, [], ◌∷◌, map, length, Option, Some, None, refl, sym, ap}
-use Rattle.std.proofs.Common.{subst, ◌∙◌}
+use Rattle.std.proofs.Common.{subst, ◌∙◌, arith, ◌&&◌}
 use Rattle.std.specs.Prelude.{Ok, Err, nat_eq, nat_lt, nat_le, slice_get}
+use Rattle.heap_syntax.specs.declared.version.Version.{Version}
+use Rattle.heap_syntax.specs.declared.version.Version.TheVariants.{One, Two, Three}
+use Rattle.heap_syntax.specs.Versions.{limits}
+use Rattle.cyc_basics.specs.Limits.{AreWithin}
+use Rattle.cyc_basics.specs.declared.limits.Limits.{Limits}
 use Rattle.heap_formula.specs.declared.commands.Command.{Command}
 use Rattle.heap_formula.specs.declared.judgements.Judgement.{Judgement}
 use Rattle.heap_formula.specs.declared.judgements.Judgement.TheVariants.{Entail, Term as Runs}
@@ -17,8 +22,6 @@ use Rattle.rule_table.specs.Judgements.{same_heap, same_judgement}
 use Rattle.rule_table.specs.RuleBook.{rule_answer}
 use Rattle.rule_table.specs.Tests.{same_pure, same_spatial}
 use Rattle.trace_pairs.specs.Lasso.{AllProgress}
-use Rattle.heap_syntax.specs.Versions.{most_spatial}
-use Rattle.heap_reader.proofs.Fitting.{most_fits}
 use Rattle.proof_graph.specs.Traces.{positions_of}
 use Rattle.logics.specs.declared.premises.Subgoal.{Subgoal}
 use Rattle.logics.specs.Faults.{first_of, fault_unless, differs, premises_fault, rule_fault}
@@ -27,7 +30,8 @@ use Rattle.logics.proofs.RightNodes.{none_of_two, no_fault}
 use Rattle.rule_book.specs.Graphs.{edges_of}
 use Rattle.rule_book.specs.SeparationLogic.{traced, traced_answer, separation_logic}
 use Rattle.proof_file.specs.declared.file.ProofFile.{ProofFile}
-use Rattle.proof_file.specs.Upgrades.{IsUpgrade}
+use Rattle.proof_file.specs.Upgrades.{IsUpgrade, upgraded}
+use Rattle.proof_check.specs.Widened.{IsWidened}
 use Rattle.proof_file.proofs.FewAtoms.{node_is_few}
 use Rattle.proof_check.specs.Files.{Node, node_fault, graph_node, graph_of, AreRight}
 use Rattle.proof_check.specs.Verdicts.{file_graph, IsCorrect}
@@ -37,16 +41,17 @@ use Rattle.std.proofs.lemmas.Bool.{and_from, and_parts}
 use Rattle.std.specs.List.{list_all}
 use Rattle.std.specs.Cmp.Lexicographic.{pointwise, as_long}
 
--- ---- judgements that are one have as many spatial atoms
+-- ---- judgements that are one have as many atoms
 
-heap_few : (most : ℕ) (a b : SymbolicHeap) → same_heap a b ≡ true → is_short_heap most b ≡ true
+heap_few : (most : Limits) (a b : SymbolicHeap) → same_heap a b ≡ true → is_short_heap most b ≡ true
     → is_short_heap most a ≡ true
 heap_few most a b e few =
-    let spatial = as_long same_spatial a.spatial b.spatial
-    (and_parts (pointwise same_pure a.pure b.pure) (pointwise same_spatial a.spatial b.spatial) e).1 in
-    ap (λ n. nat_le n most) spatial ∙ few
+    let both = and_parts (pointwise same_pure a.pure b.pure) (pointwise same_spatial a.spatial b.spatial) e in
+    let pure = as_long same_pure a.pure b.pure both.0 in
+    let spatial = as_long same_spatial a.spatial b.spatial both.1 in
+    (λ i. nat_le (pure i) most.pure && nat_le (spatial i) most.spatial) ∙ few
 
-heaps_few : (most : ℕ) (xs ys : List SymbolicHeap) → pointwise same_heap xs ys ≡ true
+heaps_few : (most : Limits) (xs ys : List SymbolicHeap) → pointwise same_heap xs ys ≡ true
     → list_all (is_short_heap most) ys ≡ true → list_all (is_short_heap most) xs ≡ true
 heaps_few most [] [] e few = refl
 heaps_few most (a ∷ xs) (b ∷ ys) e few =
@@ -56,7 +61,7 @@ heaps_few most (a ∷ xs) (b ∷ ys) e few =
     (heaps_few most xs ys h.1 f.1)
 heaps_few most xs ys e few = absurd cc
 
-judgement_few : (most : ℕ) (i j : Judgement) → same_judgement i j ≡ true
+judgement_few : (most : Limits) (i j : Judgement) → same_judgement i j ≡ true
     → list_all (is_short_heap most) (heaps_of j) ≡ true → list_all (is_short_heap most) (heaps_of i) ≡ true
 judgement_few most (Entail a bs) (Entail b cs) e few = heaps_few most (a ∷ bs) (b ∷ cs) e few
 judgement_few most (Runs i a) (Runs k b) e few =
@@ -71,7 +76,7 @@ record HasPremises (answer : Answer) : Type 0 where
   ps : List Premise
   is : answer ≡ Ok ps
 
-module _ (most : ℕ) (nodes : List Node) (few : (u : ℕ) (node : Node) → slice_get nodes u ≡ Some node
+module _ (most : Limits) (nodes : List Node) (few : (u : ℕ) (node : Node) → slice_get nodes u ≡ Some node
     → list_all (is_short_heap most) (heaps_of node.judgement) ≡ true) where
   -- the faults of premises speak of no limit, so that they are those of the logic under any
   abbrev Fault : ℕ → ℕ → List (Subgoal Judgement) → List ℕ → Option RuleFault
@@ -85,7 +90,7 @@ module _ (most : ℕ) (nodes : List Node) (few : (u : ℕ) (node : Node) → sli
       judgement_few most p.judgement node.judgement
       (no_fault (same_judgement p.judgement node.judgement) (PremiseDiffers i) e) (few u node at)
 
-  -- the premises of a right node have few spatial atoms, as its nodes have
+  -- the premises of a right node have few atoms, as its nodes have
   premises_few : (v i : ℕ) (ps : List Premise) (us : List ℕ) → Fault v i (map traced ps) us ≡ None
       → each_heap (is_short_heap most) ps ≡ true
   premises_few v i [] us e = refl
@@ -99,7 +104,7 @@ module _ (most : ℕ) (nodes : List Node) (few : (u : ℕ) (node : Node) → sli
       and_from (list_all (is_short_heap most) (heaps_of p.judgement)) (each_heap (is_short_heap most) ps)
       (premise_few i u p (slice_get nodes u) refl b.0) (premises_few v (suc i) ps us b.1)
 
-  module _ (more : ℕ) (le : most ≤ more) (ds : List Definition) (lines : List Command) where
+  module _ (more : Limits) (le : AreWithin most more) (ds : List Definition) (lines : List Command) where
     -- the fault of a rule with this answer
     abbrev rule_fault_of : ℕ → List ℕ → Answer → Option RuleFault
     rule_fault_of v us answer = rule_fault (separation_logic most ds lines) nodes v us (traced_answer answer)
@@ -166,42 +171,64 @@ module _ (most : ℕ) (nodes : List Node) (few : (u : ℕ) (node : Node) → sli
 few_nodes : (f : ProofFile) (u : ℕ) (node : Node) → slice_get f.nodes u ≡ Some node
     → list_all (is_short_heap f.defs.most) (heaps_of node.judgement) ≡ true
 few_nodes f u node at =
-    subst (λ (n : ℕ). list_all (is_short_heap n) (heaps_of node.judgement) ≡ true) (sym f.limit)
+    subst (λ (most : Limits). list_all (is_short_heap most) (heaps_of node.judgement) ≡ true) (sym f.limit)
     (node_is_few f u node at)
 
-module _ (f g : ProofFile) (up : IsUpgrade f g) where
-  limit : g.defs.most ≡ 32
-  limit = g.limit ∙ ap most_spatial up.version
+module _ (f g : ProofFile) (up : IsWidened f g) where
+  -- the nodes, definitions and lines of the one, under the limits of the other
+  right_up : AreRight g.defs.most f.defs.list f.program f.nodes → AreRight g.defs.most g.defs.list g.program g.nodes
+  right_up r = subst (λ (x : _). x)
+      (λ i. AreRight g.defs.most (sym up.definitions i) (sym up.program i) (sym up.nodes i)) r
 
-  le : f.defs.most ≤ 32
-  le = subst (λ (n : ℕ). n ≤ 32) (sym f.limit) (most_fits f.version)
+  right_down : AreRight g.defs.most g.defs.list g.program g.nodes → AreRight g.defs.most f.defs.list f.program f.nodes
+  right_down r = subst (λ (x : _). x) (λ i. AreRight g.defs.most (up.definitions i) (up.program i) (up.nodes i)) r
 
-  -- the nodes, definitions and lines of the one, under the limit of the other
-  right_up : AreRight 32 f.defs.list f.program f.nodes → AreRight g.defs.most g.defs.list g.program g.nodes
-  right_up r = subst (λ (x : _). x) (λ i. AreRight (sym limit i) (sym up.definitions i) (sym up.program i)
-      (sym up.nodes i)) r
-
-  right_down : AreRight g.defs.most g.defs.list g.program g.nodes → AreRight 32 f.defs.list f.program f.nodes
-  right_down r = subst (λ (x : _). x) (λ i. AreRight (limit i) (up.definitions i) (up.program i) (up.nodes i)) r
-
-  graph_up : graph_of 32 f.defs.list f.program f.nodes ≡ file_graph g
-  graph_up = λ i. graph_of (sym limit i) (sym up.definitions i) (sym up.program i) (sym up.nodes i)
+  graph_up : graph_of g.defs.most f.defs.list f.program f.nodes ≡ file_graph g
+  graph_up = λ i. graph_of g.defs.most (sym up.definitions i) (sym up.program i) (sym up.nodes i)
 
   right_graph : AreRight f.defs.most f.defs.list f.program f.nodes → file_graph g ≡ file_graph f
   right_graph right =
-      sym graph_up ∙ graph_same f.defs.most f.nodes (few_nodes f) 32 le f.defs.list f.program right
+      sym graph_up ∙ graph_same f.defs.most f.nodes (few_nodes f) g.defs.most up.within f.defs.list f.program right
 
   pub same_graph : IsCorrect f → file_graph g ≡ file_graph f
   same_graph correct = right_graph correct.nodes
 
   pub correct_again : IsCorrect f → IsCorrect g
   correct_again correct = record {
-    nodes = right_up (right_rises f.defs.most f.nodes (few_nodes f) 32 le f.defs.list f.program correct.nodes);
+    nodes = right_up
+        (right_rises f.defs.most f.nodes (few_nodes f) g.defs.most up.within f.defs.list f.program correct.nodes);
     paths = subst AllProgress (sym (same_graph correct)) correct.paths;
   }
 
   pub correct_before : IsCorrect g → IsCorrect f
   correct_before correct =
-      let right = right_falls f.defs.most f.nodes (few_nodes f) 32 le f.defs.list f.program (right_down correct.nodes)
-      in
+      let right = right_falls f.defs.most f.nodes (few_nodes f) g.defs.most up.within f.defs.list f.program
+      (right_down correct.nodes) in
       record { nodes = right; paths = subst AllProgress (right_graph right) correct.paths }
+
+-- ---- upgrades
+
+-- a later version allows as much
+later_allows : (v : Version) → AreWithin (limits v) (limits (upgraded v))
+later_allows One = record {
+  arguments = omega arith; cases = omega arith; locals = omega arith; pure = omega arith; spatial = omega arith;
+  cells = omega arith;
+}
+later_allows Two = record {
+  arguments = omega arith; cases = omega arith; locals = omega arith; pure = omega arith; spatial = omega arith;
+  cells = omega arith;
+}
+later_allows Three = record {
+  arguments = omega arith; cases = omega arith; locals = omega arith; pure = omega arith; spatial = omega arith;
+  cells = omega arith;
+}
+
+pub upgrade_widens : (f g : ProofFile) → IsUpgrade f g → IsWidened f g
+upgrade_widens f g up =
+    record {
+      within = subst (λ (x : _). x) (λ i. AreWithin (sym f.limit i) ((ap limits (sym up.version) ∙ sym g.limit) i))
+          (later_allows f.version);
+      definitions = up.definitions;
+      program = up.program;
+      nodes = up.nodes;
+    }

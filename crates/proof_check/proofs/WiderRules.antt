@@ -1,14 +1,16 @@
--- A rule's answer under a greater limit of spatial atoms: the same premises, or some that pass the lesser one.
+-- A rule's answer under limits that allow as much: the same premises, or some that pass the lesser one.
 use Rattle.std.proofs.Common.{◌≡◌, ℕ, ◌≤◌, Bool, true, false, List, [], ◌∷◌, map, length, Option, Some, None, refl, sym}
 use Rattle.std.proofs.Common.{subst, ◌∙◌, arith}
-use Rattle.std.specs.Prelude.{Ok, Err, ◌+◌, max, nat_le, slice_get}
+use Rattle.std.specs.Prelude.{Ok, Err, ◌+◌, max, nat_eq, nat_le, slice_get, if◌then◌else◌}
 use Rattle.std.proofs.lemmas.Bool.{leb-true, le-leb, and_from, and_parts}
 use Rattle.std.specs.List.{list_all}
+use Rattle.cyc_basics.specs.Limits.{AreWithin}
+use Rattle.cyc_basics.specs.declared.limits.Limits.{Limits}
 use Rattle.heap_formula.specs.declared.atoms.Pure.TheVariants.{Eq, Neq}
 use Rattle.heap_formula.specs.declared.atoms.Spatial.{Spatial}
 use Rattle.heap_formula.specs.declared.atoms.Spatial.TheVariants.{Cell, Pred}
 use Rattle.heap_formula.specs.declared.terms.Term.{Term}
-use Rattle.heap_formula.specs.declared.terms.Term.TheVariants.{Univ}
+use Rattle.heap_formula.specs.declared.terms.Term.TheVariants.{Nil, Univ}
 use Rattle.heap_formula.specs.declared.commands.Command.{Command}
 use Rattle.heap_formula.specs.declared.commands.Command.TheVariants.{Assign, Load, Store, New, Free, IfEq, IfNeq, IfAny}
 use Rattle.heap_formula.specs.declared.commands.Command.TheVariants.{Goto, Stop}
@@ -16,7 +18,7 @@ use Rattle.heap_formula.specs.declared.judgements.Judgement.{Judgement}
 use Rattle.heap_formula.specs.declared.judgements.Judgement.TheVariants.{Entail, Term as Runs}
 use Rattle.heap_formula.specs.declared.judgements.Premise.{Premise}
 use Rattle.heap_formula.specs.declared.proof_rules.Rule.{Rule}
-use Rattle.heap_formula.specs.declared.proof_rules.Rule.TheVariants.{Unfold, Cut, UnfoldRight, Exec}
+use Rattle.heap_formula.specs.declared.proof_rules.Rule.TheVariants.{Split, Distinct, Unfold, Cut, UnfoldRight, Exec}
 use Rattle.heap_formula.specs.declared.proof_rules.RuleFault.{RuleFault}
 use Rattle.heap_formula.specs.declared.proof_rules.RuleFault.TheVariants.{NoSuchAtom, NoSuchCase, NoCell, TooManyAtoms}
 use Rattle.heap_formula.specs.declared.proof_rules.RuleFault.TheVariants.{NoFreshVariable, WrongJudgement}
@@ -35,7 +37,8 @@ use Rattle.rule_table.specs.ExecTable.{command_answer}
 use Rattle.rule_table.specs.RuleBook.{variables_of, rule_answer}
 use Rattle.rule_table.specs.RuleCut.{cut_left, cut_right}
 use Rattle.rule_table.specs.RuleUnfold.{unfold_premise, unfolded}
-use Rattle.rule_table.specs.Table.{calls, right_term, with_right, without_spatial}
+use Rattle.rule_table.specs.Table.{calls, right_term, with_pure, with_right, without_spatial}
+use Rattle.rule_table.specs.Tests.{address_of}
 use Rattle.rule_table.specs.Tests.{ascend_from, has_number}
 use Rattle.heap_reader.specs.Small.{is_short_heap}
 
@@ -53,18 +56,15 @@ every_weaker : {X : Type 0} (p q : X → Bool) → ((x : X) → p x ≡ true →
     → list_all p xs ≡ true → list_all q xs ≡ true
 every_weaker p q step xs e = every_both p p q (λ x h g. step x h) xs e e
 
-short_wider : (most more : ℕ) → most ≤ more → (a : SymbolicHeap) → is_short most a ≡ true → is_short more a ≡ true
+short_wider : (most more : Limits) → AreWithin most more → (a : SymbolicHeap) → is_short most a ≡ true
+    → is_short more a ≡ true
 short_wider most more le a e =
-    let b = and_parts (nat_le (length a.pure) 64) (nat_le (length a.spatial) most) e in
-    let few = leb-true (length a.spatial) most b.1 in
-    and_from (nat_le (length a.pure) 64) (nat_le (length a.spatial) more) b.0
-    (le-leb (length a.spatial) more (omega arith))
-
-short_again : (most more : ℕ) (a : SymbolicHeap) → is_short more a ≡ true → is_short_heap most a ≡ true
-    → is_short most a ≡ true
-short_again most more a e f =
-    let b = and_parts (nat_le (length a.pure) 64) (nat_le (length a.spatial) more) e in
-    and_from (nat_le (length a.pure) 64) (nat_le (length a.spatial) most) b.0 f
+    let b = and_parts (nat_le (length a.pure) most.pure) (nat_le (length a.spatial) most.spatial) e in
+    let pures = leb-true (length a.pure) most.pure b.0 in
+    let spatials = leb-true (length a.spatial) most.spatial b.1 in
+    and_from (nat_le (length a.pure) more.pure) (nat_le (length a.spatial) more.spatial)
+    (le-leb (length a.pure) more.pure (omega (arith, le.pure)))
+    (le-leb (length a.spatial) more.spatial (omega (arith, le.spatial)))
 
 needs_ok : (b : Bool) (f : RuleFault) (rest : Answer) (ps : List Premise) → needs b f rest ≡ Ok ps
     → (b ≡ true) × (rest ≡ Ok ps)
@@ -77,12 +77,12 @@ needs_from false f rest e = absurd cc
 
 -- ---- answers
 
--- the second answer has the premises of the first, and the first those of the second where they have few spatial atoms
-pub record Widens (most : ℕ) (answer other : Answer) : Type 0 where
+-- the second answer has the premises of the first, and the first those of the second where they have few atoms
+pub record Widens (most : Limits) (answer other : Answer) : Type 0 where
   pub rises : (ps : List Premise) → answer ≡ Ok ps → other ≡ Ok ps
   pub falls : (ps : List Premise) → other ≡ Ok ps → each_heap (is_short_heap most) ps ≡ true → answer ≡ Ok ps
 
-module _ (most more : ℕ) (le : most ≤ more) where
+module _ (most more : Limits) (le : AreWithin most more) where
   same : (answer : Answer) → Widens most answer answer
   same answer = record { rises = λ ps e. e; falls = λ ps e few. e }
 
@@ -150,7 +150,7 @@ module _ (most more : ℕ) (le : most ≤ more) where
           let short = every_both (λ (p : Premise). list_all (is_short more) (heaps_of p.judgement))
           (λ (p : Premise). list_all (is_short_heap most) (heaps_of p.judgement))
           (λ (p : Premise). list_all (is_short most) (heaps_of p.judgement))
-          (λ p h g. every_both (is_short more) (is_short_heap most) (is_short most) (short_again most more)
+          (λ p h g. every_both (is_short more) (is_short_heap most) (is_short most) (λ a h g. g)
           (heaps_of p.judgement) h g) ps b.0 few_here in
           needs_from (each_heap (is_short most) ps) TooManyAtoms numbers short ∙ b.1
 
@@ -201,4 +201,11 @@ module _ (most more : ℕ) (le : most ≤ more) where
   rule_wide ds lines j Exec =
       runs_wide j _ _ (λ i a. finds_wide (counted_from_one lines i) WrongJudgement _ _
       (λ c. command_wide i a (fresh_number (program_variables lines) j) c))
+  rule_wide ds lines j (Split t u) = limited_wide (two (with_pure j (Eq t u)) (with_pure j (Neq t u)))
+  rule_wide ds lines j (Distinct i k) =
+      finds_wide (slice_get (antecedent j).spatial i) NoSuchAtom _ _
+      (λ x. finds_wide (slice_get (antecedent j).spatial k) NoSuchAtom _ _
+      (λ y. finds_wide (address_of x) NoCell _ _
+      (λ t. finds_wide (address_of y) NoCell _ _
+      (λ u. limited_wide (one (with_pure j (Neq t (if nat_eq i k then Nil else u))))))))
   rule_wide ds lines j rule = same (rule_answer most ds lines j rule)

@@ -1,47 +1,50 @@
--- Each judgement of a file is within its version's limit.
+-- Each judgement of a file is within its version's limits.
 use Rattle.std.proofs.Common.{◌≡◌, ℕ, ◌+◌, ◌≤◌, true, List, [], ◌∷◌, length, map, None, Some, refl, arith}
 use Rattle.std.specs.Prelude.{◌||◌, nat_eq, nat_lt, nat_le, slice_get}
 use Rattle.std.proofs.lemmas.Bool.{le-leb, and_from as both_true}
 use Rattle.std.proofs.lemmas.List.{length-map}
 use Rattle.std.specs.List.{list_all}
+use Rattle.cyc_basics.specs.declared.limits.Limits.{Limits}
 use Rattle.heap_formula.specs.declared.judgements.Judgement.{Judgement as JudgementValue}
 use Rattle.heap_formula.specs.declared.judgements.Judgement.TheVariants.{Entail, Term as Halting}
 use Rattle.heap_formula.specs.Definitions.{Definition as DefinitionValue}
 use Rattle.heap_formula.specs.Symbolic.{SymbolicHeap}
 use Rattle.heap_formula.specs.Words.{Each}
-use Rattle.rule_table.specs.Answer.{heaps_of}
+use Rattle.rule_table.specs.Answer.{heaps_of, is_short}
 use Rattle.cyc_lex.specs.declared.fault.IllFault.TheVariants.{NoLine}
 use Rattle.cyc_lex.specs.declared.fault.What.TheVariants.{Disjuncts}
-use Rattle.heap_syntax.specs.Versions.{most_spatial}
+use Rattle.heap_syntax.specs.Versions.{limits}
 use Rattle.proof_syntax.specs.Trees.{Heap}
 use Rattle.heap_reader.specs.Trees.{Heading}
 use Rattle.heap_reader.specs.Spans.{heap_span}
 use Rattle.heap_reader.specs.Flaws.{ill_if, heap_flaw, heaps_flaw}
 use Rattle.heap_reader.proofs.NoFlaw.{neither}
-use Rattle.heap_reader.proofs.Fitting.{most_fits, heap_few, heaps_few}
+use Rattle.heap_reader.proofs.Fitting.{HasFewAtoms, most_fits, heap_few, heaps_few}
 use Rattle.proof_file.specs.declared.file.ProofFile.{ProofFile}
 use Rattle.proof_file.specs.FileNodes.{FileNode}
 use Rattle.heap_reader.specs.declared.definitions.scope.Scope.TheVariants.{Outside as InNode}
 use Rattle.proof_file.specs.Spans.{term_span, node_span}
 use Rattle.proof_file.specs.Flaws.{headings, term_flaw, judgement_flaw, node_flaw, first_node}
-use Rattle.proof_file.specs.Written.{spatial_tree, heap_tree, judgement_tree, node_tree, tree_of}
+use Rattle.proof_file.specs.Written.{pure_tree, spatial_tree, heap_tree, judgement_tree, node_tree, tree_of}
 use Rattle.proof_file.proofs.Fitting.{node_parts, file_parts}
 use Rattle.cyc_basics.proofs.Places.{get_map}
 use Rattle.heap_reader.proofs.FirstPlaces.{flaw_at}
 
-heaps_are_few : (most : ℕ) (ds : List DefinitionValue) (bs : List SymbolicHeap)
-    → Each (λ (h : Heap). length h.spatial ≤ most) (map (heap_tree ds) bs)
-    → list_all (λ (a : SymbolicHeap). nat_le (length a.spatial) most) bs ≡ true
+heaps_are_few : (most : Limits) (ds : List DefinitionValue) (bs : List SymbolicHeap)
+    → Each (HasFewAtoms most) (map (heap_tree ds) bs) → list_all (is_short most) bs ≡ true
 heaps_are_few most ds [] e = refl
 heaps_are_few most ds (b ∷ bs) e =
     let few = e.0 in
-    let l = length-map b.spatial (spatial_tree ds) in
-    both_true (nat_le (length b.spatial) most) (list_all (λ (a : SymbolicHeap). nat_le (length a.spatial) most) bs)
-    (le-leb (length b.spatial) most (omega arith)) (heaps_are_few most ds bs e.1)
+    let pures = length-map b.pure pure_tree in
+    let spatials = length-map b.spatial (spatial_tree ds) in
+    both_true (is_short most b) (list_all (is_short most) bs)
+    (both_true (nat_le (length b.pure) most.pure) (nat_le (length b.spatial) most.spatial)
+    (le-leb (length b.pure) most.pure (omega (arith, few.0, pures)))
+    (le-leb (length b.spatial) most.spatial (omega (arith, few.1, spatials)))) (heaps_are_few most ds bs e.1)
 
-judgement_is_few : (most : ℕ) (ds : List DefinitionValue) (hs : List Heading) (count k : ℕ) (j : JudgementValue)
+judgement_is_few : (most : Limits) (ds : List DefinitionValue) (hs : List Heading) (count k : ℕ) (j : JudgementValue)
     → judgement_flaw most hs count k (judgement_tree ds j) ≡ None
-    → list_all (λ (a : SymbolicHeap). nat_le (length a.spatial) most) (heaps_of j) ≡ true
+    → list_all (is_short most) (heaps_of j) ≡ true
 judgement_is_few most ds hs count k (Entail a bs) e =
     let p = k + heap_span term_span (heap_tree ds a) in
     let both = neither (heap_flaw (term_flaw InNode) term_span most hs k (heap_tree ds a))
@@ -55,12 +58,12 @@ judgement_is_few most ds hs count k (Halting n a) e =
     (heap_flaw (term_flaw InNode) term_span most hs (k + 3) (heap_tree ds a)) e in
     heaps_are_few most ds (a ∷ []) (heap_few (term_flaw InNode) term_span most hs (k + 3) (heap_tree ds a) both.1, tt)
 
--- the heaps of a node's judgement are within the limit of the file's version
+-- the heaps of a node's judgement are within the limits of the file's version
 pub node_is_few : (f : ProofFile) (v : ℕ) (n : FileNode) → slice_get f.nodes v ≡ Some n
-    → list_all (λ (a : SymbolicHeap). nat_le (length a.spatial) (most_spatial f.version)) (heaps_of n.judgement) ≡ true
+    → list_all (is_short (limits f.version)) (heaps_of n.judgement) ≡ true
 node_is_few f v n at =
     let ds = f.defs.list in
-    let most = most_spatial f.version in
+    let most = limits f.version in
     let tree = tree_of f.version ds f.program f.nodes in
     let hs = headings tree.definitions in
     let count = length tree.lines in

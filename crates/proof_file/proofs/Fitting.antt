@@ -1,6 +1,8 @@
 -- A file without a flaw fits the values' types.
 use Rattle.std.proofs.Common.{◌≡◌, ℕ, suc, ◌+◌, ◌<◌, ◌≤◌, List, [], ◌∷◌, false, length, None, arith, ap}
 use Rattle.std.specs.Prelude.{◌||◌, nat_eq, nat_lt, nat_le}
+use Rattle.cyc_basics.specs.Limits.{AreLimits}
+use Rattle.cyc_basics.specs.declared.limits.Limits.{Limits}
 use Rattle.heap_formula.specs.Words.{Each}
 use Rattle.cyc_lex.specs.declared.fault.What.TheVariants.{Disjuncts, Nodes, ProgramVariables, Variable}
 use Rattle.cyc_lex.specs.declared.fault.IllFault.TheVariants.{NoLine}
@@ -8,7 +10,7 @@ use Rattle.proof_syntax.specs.declared.tree.PairTree.{PairTree}
 use Rattle.proof_syntax.specs.Trees.{Entailment, Judgement, Entails, From, Reason, Absurd, Rewrite, Split, Distinct}
 use Rattle.proof_syntax.specs.Trees.{Weaken, Unfold, Cut, Done, Choose, PureRight, Instantiate, Frame, UnfoldRight}
 use Rattle.proof_syntax.specs.Trees.{Exec, Drop, Link, Node, File}
-use Rattle.heap_syntax.specs.Versions.{most_spatial}
+use Rattle.heap_syntax.specs.Versions.{limits}
 use Rattle.heap_reader.specs.Trees.{Heading}
 use Rattle.heap_reader.specs.Spans.{heap_span}
 use Rattle.heap_reader.specs.Flaws.{ill_if, over_if, or_later, listed_flaw, heap_flaw, heaps_flaw}
@@ -38,7 +40,7 @@ abbrev pub HasDisjunct : Judgement → Type 0
 HasDisjunct (Entails e) = 0 < length e.disjuncts
 HasDisjunct (From n h) = Unit {0}
 
-module _ (most : ℕ) (few : most ≤ 32) (hs : List Heading) where
+module _ (most : Limits) (few : AreLimits most) (hs : List Heading) where
   entailment_small : (k : ℕ) (j : Entailment) → 0 < length j.disjuncts → entailment_flaw most hs k j ≡ None
       → IsSmallEntailment j
   entailment_small k j some e =
@@ -121,13 +123,13 @@ module _ (most : ℕ) (few : most ≤ 32) (hs : List Heading) where
 
 -- what a file without a flaw has no flaw in
 pub file_parts : (f : File) → file_flaw f ≡ None → (listed_flaw
-    (definition_flaw (most_spatial f.version) (headings f.definitions)) definition_span 0 4 f.definitions ≡ None)
-    × (program_flaw (first_line f) f.lines ≡ None) × (nodes_flaw f ≡ None)
+    (definition_flaw (limits f.version) (headings f.definitions)) definition_span 0 4 f.definitions ≡ None)
+    × (program_flaw (limits f.version) (first_line f) f.lines ≡ None) × (nodes_flaw f ≡ None)
 file_parts f e =
-    let definitions = listed_flaw (definition_flaw (most_spatial f.version) (headings f.definitions))
+    let definitions = listed_flaw (definition_flaw (limits f.version) (headings f.definitions))
     definition_span 0 4 f.definitions in
-    let a = neither definitions (or_later (program_flaw (first_line f) f.lines) (nodes_flaw f)) e in
-    let b = neither (program_flaw (first_line f) f.lines) (nodes_flaw f) a.1 in
+    let a = neither definitions (or_later (program_flaw (limits f.version) (first_line f) f.lines) (nodes_flaw f)) e in
+    let b = neither (program_flaw (limits f.version) (first_line f) f.lines) (nodes_flaw f) a.1 in
     (a.0, b.0, b.1)
 
 -- a file without a flaw is small
@@ -135,7 +137,7 @@ pub file_small : (f : File) → Each (λ (x : Node). HasDisjunct x.judgement) f.
 file_small f some e =
     let ds = f.definitions in
     let hs = headings ds in
-    let most = most_spatial f.version in
+    let most = limits f.version in
     let few = most_fits f.version in
     let count = length f.lines in
     let parts = file_parts f e in

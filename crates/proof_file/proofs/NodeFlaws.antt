@@ -1,6 +1,7 @@
 -- The first flaw of what is kept of a node is the first flaw of the node, and without a flaw all is kept.
 use Rattle.std.proofs.Common.{◌≡◌, ℕ, ◌+◌, ◌≤◌, List, length, Some, None, refl, ap, ◌∙◌}
 use Rattle.std.specs.Prelude.{◌||◌, nat_eq, nat_lt, nat_le}
+use Rattle.cyc_basics.specs.declared.limits.Limits.{Limits}
 use Rattle.cyc_lex.specs.declared.fault.IllFault.TheVariants.{NoLine}
 use Rattle.cyc_lex.specs.declared.fault.What.TheVariants.{Disjuncts, Nodes}
 use Rattle.heap_syntax.specs.declared.keep.Keep.TheVariants.{Beyond}
@@ -18,7 +19,8 @@ use Rattle.heap_reader.specs.declared.definitions.scope.Scope.TheVariants.{Outsi
 use Rattle.proof_file.specs.Flaws.{term_flaw, entailment_flaw, judgement_flaw, reason_flaw, node_flaw}
 use Rattle.proof_file.specs.Spans.{term_span, judgement_span}
 
-module _ (most : ℕ) (m : ℕ) (pures_within : 64 ≤ m) (spatials_within : most ≤ m) (heaps_within : 16 ≤ m)
+module _ (most : Limits) (m : ℕ) (pures_within : most.pure ≤ m) (spatials_within : most.spatial ≤ m)
+    (heaps_within : 16 ≤ m)
     (hs : List Heading) where
   abbrev heap_found : ℕ → Heap → Found
   heap_found k h = heap_flaw (term_flaw InNode) term_span most hs k h

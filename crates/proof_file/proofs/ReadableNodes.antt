@@ -5,6 +5,9 @@ use Rattle.std.specs.List.{list_all}
 use Rattle.std.specs.Prelude.{◌||◌, nat_eq, nat_lt, nat_le}
 use Rattle.std.proofs.lemmas.Bool.{le-leb, lt-ltb, ltb-false, and_from as both_true}
 use Rattle.std.proofs.lemmas.List.{length-map}
+use Rattle.cyc_basics.specs.Limits.{AreLimits}
+use Rattle.cyc_basics.specs.declared.limits.Limits.{Limits}
+use Rattle.cyc_basics.specs.declared.limits.TheConstants.{MOST_CASES}
 use Rattle.heap_formula.specs.declared.terms.Term.{Term}
 use Rattle.heap_formula.specs.Words.{Each}
 use Rattle.heap_formula.specs.Judgements.{antecedent}
@@ -28,7 +31,7 @@ use Rattle.proof_syntax.specs.Trees.{File}
 use Rattle.proof_syntax.specs.Grammar.{uterm, terms, pure, pures, spatial, heap, entailment, state, judgement, pair}
 use Rattle.proof_syntax.specs.Grammar.{pairs1, pairs, link, parts, split, instantiate, reason, node, nodes, more_nodes}
 use Rattle.proof_syntax.specs.Grammar.{body, file, some_pure, some_pair, comma, colon, closing}
-use Rattle.heap_syntax.specs.Versions.{most_spatial}
+use Rattle.heap_syntax.specs.Versions.{limits}
 use Rattle.heap_reader.specs.Trees.{Heading}
 use Rattle.heap_reader.specs.Flaws.{ill_if, listed_flaw, heap_flaw}
 use Rattle.heap_reader.specs.Values.{pure_value, spatial_value, heap_value}
@@ -176,7 +179,7 @@ pub cases_few : (ds : List Definition) (hs : List Heading) → Each IsSmallDefin
 cases_few ds hs small =
     all_pass has_few_cases (definition_value hs) IsSmallDefinition
     (λ d s. let l = length-map d.cases (heap_value term_value hs) in let few = s.few in
-    le-leb (length (map (heap_value term_value hs) d.cases)) 16 (omega arith)) ds small
+    le-leb (length (map (heap_value term_value hs) d.cases)) MOST_CASES (omega (arith, l, few))) ds small
 
 -- ---- commands
 
@@ -224,7 +227,7 @@ line_there count n e =
         let within = ltb-false count n o in
         both_true (nat_lt 0 n) (nat_le n count) (lt-ltb 0 n (omega arith)) (le-leb n count within)
 
-judgement_at_line : (most : ℕ) (hs : List Heading) (count k : ℕ) (j : Judgement)
+judgement_at_line : (most : Limits) (hs : List Heading) (count k : ℕ) (j : Judgement)
     → judgement_flaw most hs count k j ≡ None → is_at_line count (judgement_value hs j) ≡ true
 judgement_at_line most hs count k (Entails j) e = refl
 judgement_at_line most hs count k (From n h) e =
@@ -232,7 +235,7 @@ judgement_at_line most hs count k (From n h) e =
     line_there count n (not_ill out NoLine (k + 1) (neither (ill_if out NoLine (k + 1))
     (heap_flaw (term_flaw InNode) term_span most hs (k + 3) h) e).0)
 
-nodes_at_lines : (most : ℕ) → most ≤ 32 → (hs : List Heading) (count n k : ℕ) (xs : List Node)
+nodes_at_lines : (most : Limits) → AreLimits most → (hs : List Heading) (count n k : ℕ) (xs : List Node)
     → listed_flaw (node_flaw most hs count) node_span n k xs ≡ None → are_at_lines count (map (node_value hs) xs) ≡ true
 nodes_at_lines most few hs count n k [] e = refl
 nodes_at_lines most few hs count n k (x ∷ xs) e =
@@ -244,5 +247,5 @@ nodes_at_lines most few hs count n k (x ∷ xs) e =
 
 pub file_at_lines : (f : File) → file_flaw f ≡ None
     → are_at_lines (length f.lines) (map (node_value (headings f.definitions)) f.nodes) ≡ true
-file_at_lines f e = nodes_at_lines (most_spatial f.version) (most_fits f.version) (headings f.definitions)
+file_at_lines f e = nodes_at_lines (limits f.version) (most_fits f.version) (headings f.definitions)
     (length f.lines) 0 (first_node f) f.nodes (file_parts f e).2

@@ -1,7 +1,7 @@
 -- What stands before the nodes of a file.
 use Rattle.std.proofs.Common.{◌≡◌, None, refl}
 use Rattle.proof_syntax.specs.Trees.{File}
-use Rattle.heap_syntax.specs.Versions.{most_spatial}
+use Rattle.heap_syntax.specs.Versions.{limits}
 use Rattle.heap_reader.specs.Flaws.{or_later, listed_flaw}
 use Rattle.heap_reader.proofs.NoFlaw.{none_later}
 use Rattle.proof_file.specs.Spans.{definition_span}
@@ -12,8 +12,8 @@ use Rattle.proof_file.proofs.Fitting.{file_parts}
 -- what stands before the nodes of a file without a flaw has none
 pub front_right : (f : File) → file_flaw f ≡ None → file_flaw (front_of f.version f.definitions f.lines) ≡ None
 front_right f e =
-    let definitions = listed_flaw (definition_flaw (most_spatial f.version) (headings f.definitions))
+    let definitions = listed_flaw (definition_flaw (limits f.version) (headings f.definitions))
     definition_span 0 4 f.definitions in
-    let program = program_flaw (first_line f) f.lines in
+    let program = program_flaw (limits f.version) (first_line f) f.lines in
     let parts = file_parts f e in
     none_later definitions (or_later program None) parts.0 (none_later program None parts.1 refl)

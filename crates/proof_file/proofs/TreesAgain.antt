@@ -1,6 +1,8 @@
 -- What a tree without a flaw says is written as that tree.
 use Rattle.std.proofs.Common.{◌≡◌, ℕ, suc, ◌+◌, ◌≤◌, true, false, List, [], ◌∷◌, length, map, None, refl, subst, arith}
 use Rattle.std.specs.Prelude.{◌||◌, ◌&&◌, not, nat_eq, nat_lt, nat_le}
+use Rattle.cyc_basics.specs.Limits.{AreLimits}
+use Rattle.cyc_basics.specs.declared.limits.Limits.{Limits}
 use Rattle.heap_syntax.specs.declared.lines.tree.OperandTree.{OperandTree}
 use Rattle.heap_syntax.specs.declared.lines.tree.OperandTree.TheVariants as operands
 use Rattle.heap_syntax.specs.declared.lines.tree.ChangeTree.TheVariants as changes
@@ -16,7 +18,7 @@ use Rattle.proof_syntax.specs.declared.tree.PairTree.{PairTree}
 use Rattle.proof_syntax.specs.Trees.{Line, Judgement, Entails, From, Reason, Absurd, Rewrite, Split, Distinct, Weaken}
 use Rattle.proof_syntax.specs.Trees.{Unfold, Cut, Done, Choose, PureRight, Instantiate, Frame, UnfoldRight, Exec, Drop}
 use Rattle.proof_syntax.specs.Trees.{Link, Node, File}
-use Rattle.heap_syntax.specs.Versions.{most_spatial}
+use Rattle.heap_syntax.specs.Versions.{limits}
 use Rattle.heap_reader.specs.Trees.{Heading}
 use Rattle.heap_reader.specs.Spans.{heap_span}
 use Rattle.heap_reader.specs.LineSpans.{line_span}
@@ -59,35 +61,37 @@ command_again (Change v (changes.Load t n)) = λ i. Change v (changes.Load (oper
 command_again (Change v (changes.Store n t)) = λ i. Change v (changes.Store n (operand_again t i))
 
 -- a line without a flaw has its place as its number
-own_number : (count n k : ℕ) (l : Line) → line_flaw variable_flaw variable_span count n k l ≡ None → n + 1 ≡ l.number
-own_number count n k l e =
+own_number : (most : Limits) (count n k : ℕ) (l : Line) → line_flaw variable_flaw variable_span most count n k l ≡ None
+    → n + 1 ≡ l.number
+own_number most count n k l e =
     let ends = nat_eq (suc n) count && goes_on l.command in
     let wrong = not (nat_eq l.number (suc n)) in
     let a = neither (line_head_flaw count n k l.number (goes_on l.command))
-    (command_flaw variable_flaw variable_span count (k + 3) l.command) e in
+    (command_flaw variable_flaw variable_span most count (k + 3) l.command) e in
     let b = neither (ill_if ends FallsOff k) (or_later (over_if (nat_le 4096 n) Lines k)
     (ill_if wrong Numbering (k + 1))) a.0 in
     let c = neither (over_if (nat_le 4096 n) Lines k) (ill_if wrong Numbering (k + 1)) b.1 in
     let same = equal_numbers l.number (suc n) (not_ill wrong Numbering (k + 1) c.1) in
     omega (arith, same)
 
-lines_again : (count n k : ℕ) (ls : List Line) → listed_flaw (line_flaw variable_flaw variable_span count)
-    (line_span variable_span) n k ls ≡ None → lines_behind n (program_value ls) ≡ ls
-lines_again count n k [] e = refl
-lines_again count n k (l ∷ ls) e =
+lines_again : (most : Limits) (count n k : ℕ) (ls : List Line)
+    → listed_flaw (line_flaw variable_flaw variable_span most count) (line_span variable_span) n k ls ≡ None
+    → lines_behind n (program_value ls) ≡ ls
+lines_again most count n k [] e = refl
+lines_again most count n k (l ∷ ls) e =
     let span = line_span variable_span in
-    let flaw = line_flaw variable_flaw variable_span count in
+    let flaw = line_flaw variable_flaw variable_span most count in
     let both = neither (flaw n k l) (listed_flaw flaw span (suc n) (k + span l) ls) e in
-    let number = own_number count n k l both.0 in
+    let number = own_number most count n k l both.0 in
     let command = command_again l.command in
     let next : suc n ≡ n + 1 = omega arith in
     let rest = subst (λ (m : ℕ). lines_behind m (program_value ls) ≡ ls) next
-    (lines_again count (suc n) (k + span l) ls both.1) in
+    (lines_again most count (suc n) (k + span l) ls both.1) in
     λ i. record { number = number i; command = command i } ∷ rest i
 
 -- ---- nodes
 
-module _ (most : ℕ) (few : most ≤ 32) (hs : List Heading) (vs : List DefinitionValue)
+module _ (most : Limits) (few : AreLimits most) (hs : List Heading) (vs : List DefinitionValue)
     (named : (name : List ℕ) (n k : ℕ) → use_flaw (arity_in hs name) n k ≡ None → name_of vs (place_of hs name) ≡ name)
   where
     judgement_again : (count k : ℕ) (j : Judgement) → judgement_flaw most hs count k j ≡ None
@@ -151,12 +155,12 @@ tree_again f e =
     let hs = headings ds in
     let vs = map (definition_value hs) ds in
     let count = length f.lines in
-    let most = most_spatial f.version in
+    let most = limits f.version in
     let few = most_fits f.version in
     let parts = file_parts f e in
     let definitions = listed_again (definition_flaw most hs) definition_span (definition_value hs) (definition_tree vs)
     (definition_again most hs vs (found_name hs ds)) 0 4 ds parts.0 in
-    let lines = lines_again count 0 (first_line f) f.lines parts.1 in
+    let lines = lines_again most count 0 (first_line f) f.lines parts.1 in
     let nodes = listed_again (node_flaw most hs count) node_span (node_value hs) (node_tree vs)
     (node_again most few hs vs (found_name hs ds) count) 0 (first_node f) f.nodes parts.2 in
     λ i. record { version = f.version; definitions = definitions i; lines = lines i; nodes = nodes i }

@@ -14,7 +14,7 @@ use Rattle.heap_formula.specs.declared.proof_rules.Reason.TheVariants.{Step, Bac
 use Rattle.heap_formula.specs.Definitions.{Definition as DefinitionValue}
 use Rattle.cyc_lex.proofs.BoolParts.{and-parts}
 use Rattle.cyc_grammar.specs.Classes.{is_free_name}
-use Rattle.heap_syntax.specs.Versions.{most_spatial}
+use Rattle.heap_syntax.specs.Versions.{limits}
 use Rattle.proof_syntax.specs.Grammar.{reserved, uterm, definition, disjuncts, entailment, state, judgement, cut, split}
 use Rattle.proof_syntax.specs.Grammar.{parts, reason, node, body, file, or_word, by_word}
 use Rattle.proof_file.specs.FileNodes.{FileNode}
@@ -139,7 +139,7 @@ file_known f =
     let ds = f.defs.list in
     let tree = tree_of f.version ds f.program f.nodes in
     let hs = headings tree.definitions in
-    let placed = found_place (most_spatial f.version) ds (file_parts tree f.flawless).0 in
+    let placed = found_place (limits f.version) ds (file_parts tree f.flawless).0 in
     record {
       version = refl;
       most = f.limit;

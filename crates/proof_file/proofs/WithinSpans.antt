@@ -1,13 +1,14 @@
 -- A flaw stands at a token of its part.
 use Rattle.std.proofs.Common.{ℕ, ◌+◌, List, length, arith}
 use Rattle.std.specs.Prelude.{◌||◌, nat_eq, nat_lt, nat_le}
+use Rattle.cyc_basics.specs.declared.limits.Limits.{Limits}
 use Rattle.cyc_lex.specs.declared.fault.What.TheVariants.{Disjuncts, Nodes, ProgramVariables, Variable}
 use Rattle.cyc_lex.specs.declared.fault.IllFault.TheVariants.{NoLine}
 use Rattle.proof_syntax.specs.declared.tree.PairTree.{PairTree}
 use Rattle.proof_syntax.specs.Trees.{Entailment, Judgement, Entails, From, Reason, Absurd, Rewrite, Split, Distinct}
 use Rattle.proof_syntax.specs.Trees.{Weaken, Unfold, Cut, Done, Choose, PureRight, Instantiate, Frame, UnfoldRight}
 use Rattle.proof_syntax.specs.Trees.{Exec, Drop, Link, Node, File}
-use Rattle.heap_syntax.specs.Versions.{most_spatial}
+use Rattle.heap_syntax.specs.Versions.{limits}
 use Rattle.heap_reader.specs.Trees.{Heading}
 use Rattle.heap_reader.specs.Spans.{total, total_or, heap_span}
 use Rattle.heap_reader.specs.Flaws.{ill_if, over_if, or_later, listed_flaw, heap_flaw, heaps_flaw}
@@ -29,7 +30,7 @@ variable_before k v = over_before (nat_lt 63 v) ProgramVariables (k + 1) (k + 3)
 
 -- ---- nodes
 
-module _ (most : ℕ) (hs : List Heading) where
+module _ (most : Limits) (hs : List Heading) where
   entailment_before : (k : ℕ) (e : Entailment) → Before (entailment_flaw most hs k e) (k + entailment_span e)
   entailment_before k e =
       let m = k + entailment_span e in
@@ -109,14 +110,14 @@ pub file_before : (f : File) → Before (file_flaw f) (first_node f + total node
 file_before f =
     let ds = f.definitions in
     let hs = headings ds in
-    let most = most_spatial f.version in
+    let most = limits f.version in
     let count = length f.lines in
     let m = first_node f + total node_span f.nodes in
     let definitions = listed_flaw (definition_flaw most hs) definition_span 0 4 ds in
-    let program = program_flaw (first_line f) f.lines in
+    let program = program_flaw most (first_line f) f.lines in
     first_before definitions (or_later program (nodes_flaw f)) m
     (later definitions (first_line f) m (omega arith) (listed_before (definition_flaw most hs) definition_span
     (definition_before most hs) 0 4 ds)) (first_before program (nodes_flaw f) m
     (later program (first_node f) m (omega arith) (lines_before variable_flaw variable_span variable_before
-    (first_line f) f.lines)) (listed_before (node_flaw most hs count) node_span (node_before most hs count) 0
+    most (first_line f) f.lines)) (listed_before (node_flaw most hs count) node_span (node_before most hs count) 0
     (first_node f) f.nodes))

@@ -1,7 +1,7 @@
 -- Files that are made part by part.
 use Rattle.std.specs.Prelude.{◌≡◌, List, [], map, None, Some, Result, Ok, Err}
 use Rattle.heap_syntax.specs.declared.version.Version.{Version}
-use Rattle.heap_syntax.specs.Versions.{most_spatial}
+use Rattle.heap_syntax.specs.Versions.{limits}
 use Rattle.heap_formula.specs.declared.commands.Command.{Command}
 use Rattle.heap_reader.specs.Flaws.{Found}
 use Rattle.pred_defs.specs.Book.{DefinitionBook}
@@ -22,7 +22,7 @@ front_of v ds ls = record { version = v; definitions = ds; lines = ls; nodes = [
 pub record IsSaid (t : File) (v : Version) (book : DefinitionBook) (commands : List Command) (xs : List FileNode)
     : Type 0 where
   pub version : v ≡ t.version
-  pub most : book.most ≡ most_spatial t.version
+  pub most : book.most ≡ limits t.version
   pub definitions : book.list ≡ map (definition_value (headings t.definitions)) t.definitions
   pub program : commands ≡ program_value t.lines
   pub nodes : xs ≡ map (node_value (headings t.definitions)) t.nodes

@@ -1,9 +1,10 @@
 -- The first flaw of a file that the grammar has: what is ill-formed or passes a limit, and at which token.
 use Rattle.std.specs.Prelude.{ℕ, ◌+◌, ◌||◌, nat_eq, nat_lt, nat_le, List, length, None}
+use Rattle.cyc_basics.specs.declared.limits.Limits.{Limits}
 use Rattle.cyc_basics.specs.declared.limits.TheConstants.{GREATEST_PROGRAM_VARIABLE, GREATEST_VARIABLE, MOST_NODES}
 use Rattle.cyc_lex.specs.declared.fault.IllFault.TheVariants.{NoLine}
 use Rattle.cyc_lex.specs.declared.fault.What.TheVariants.{Disjuncts, ProgramVariables, Nodes, Variable}
-use Rattle.heap_syntax.specs.Versions.{most_spatial}
+use Rattle.heap_syntax.specs.Versions.{limits}
 use Rattle.heap_reader.specs.Trees.{Heading}
 use Rattle.heap_reader.specs.Spans.{total, heap_span}
 use Rattle.heap_reader.specs.LineSpans.{line_span}
@@ -23,23 +24,23 @@ use Rattle.proof_file.specs.Spans.{term_span, variable_span, definition_span, ju
 abbrev pub variable_flaw : ℕ → ℕ → Found
 variable_flaw k n = over_if (nat_lt GREATEST_PROGRAM_VARIABLE n) ProgramVariables (k + 1)
 
-abbrev pub program_flaw : ℕ → List Line → Found
-program_flaw k ls = lines_flaw variable_flaw variable_span k ls
+abbrev pub program_flaw : Limits → ℕ → List Line → Found
+program_flaw most k ls = lines_flaw variable_flaw variable_span most k ls
 
--- ---- nodes of a file that has so many lines; a heap has at most so many spatial atoms, by the file's version
+-- ---- nodes of a file that has so many lines, within what its version allows
 
-abbrev pub entailment_flaw : ℕ → List Heading → ℕ → Entailment → Found
+abbrev pub entailment_flaw : Limits → List Heading → ℕ → Entailment → Found
 entailment_flaw most hs k e =
     or_later (heap_flaw (term_flaw InNode) term_span most hs k e.antecedent)
     (heaps_flaw (term_flaw InNode) term_span most hs Disjuncts (k + heap_span term_span e.antecedent) e.disjuncts)
 
 -- the number of a line, and the symbolic state there
-abbrev pub state_flaw : ℕ → List Heading → ℕ → ℕ → ℕ → Heap → Found
+abbrev pub state_flaw : Limits → List Heading → ℕ → ℕ → ℕ → Heap → Found
 state_flaw most hs count k n h =
     or_later (ill_if (nat_eq n 0 || nat_lt count n) NoLine (k + 1))
     (heap_flaw (term_flaw InNode) term_span most hs (k + 3) h)
 
-abbrev pub judgement_flaw : ℕ → List Heading → ℕ → ℕ → Judgement → Found
+abbrev pub judgement_flaw : Limits → List Heading → ℕ → ℕ → Judgement → Found
 judgement_flaw most hs count k (Entails e) = entailment_flaw most hs k e
 judgement_flaw most hs count k (From n h) = state_flaw most hs count k n h
 
@@ -47,7 +48,7 @@ abbrev pub pair_flaw : ℕ → PairTree → Found
 pair_flaw k p = or_later (over_if (nat_lt GREATEST_VARIABLE p.variable) Variable (k + 1))
     (term_flaw InNode (k + 3) p.value)
 
-abbrev pub reason_flaw : ℕ → List Heading → ℕ → Reason → Found
+abbrev pub reason_flaw : Limits → List Heading → ℕ → Reason → Found
 reason_flaw most hs k Absurd = None
 reason_flaw most hs k (Rewrite i side) = None
 reason_flaw most hs k (Split t u) = or_later (term_flaw InNode (k + 1) t) (term_flaw InNode (k + term_span t) u)
@@ -68,7 +69,7 @@ reason_flaw most hs k (Drop i) = None
 reason_flaw most hs k (Link l) = listed_flaw (λ n. pair_flaw) pair_span 0 (k + 3) l.substitution
 
 -- at most 20,000
-abbrev pub node_flaw : ℕ → List Heading → ℕ → ℕ → ℕ → Node → Found
+abbrev pub node_flaw : Limits → List Heading → ℕ → ℕ → ℕ → Node → Found
 node_flaw most hs count n k node =
     or_later (over_if (nat_le MOST_NODES n) Nodes k)
     (or_later (judgement_flaw most hs count (k + 1) node.judgement)
@@ -84,10 +85,11 @@ abbrev pub first_node : File → ℕ
 first_node f = first_line f + total (line_span variable_span) f.lines
 
 abbrev pub nodes_flaw : File → Found
-nodes_flaw f = listed_flaw (node_flaw (most_spatial f.version) (headings f.definitions) (length f.lines)) node_span 0
+nodes_flaw f = listed_flaw (node_flaw (limits f.version) (headings f.definitions) (length f.lines)) node_span 0
     (first_node f) f.nodes
 
 abbrev pub file_flaw : File → Found
 file_flaw f =
-    or_later (listed_flaw (definition_flaw (most_spatial f.version) (headings f.definitions))
-    definition_span 0 4 f.definitions) (or_later (program_flaw (first_line f) f.lines) (nodes_flaw f))
+    or_later (listed_flaw (definition_flaw (limits f.version) (headings f.definitions))
+    definition_span 0 4 f.definitions) (or_later (program_flaw (limits f.version) (first_line f) f.lines)
+    (nodes_flaw f))

@@ -1,13 +1,15 @@
 -- The first flaw of a file's statements, as it shows in what is kept of them.
 use Rattle.std.specs.Prelude.{◌≡◌, ◌≤◌, ℕ, None}
-use Rattle.cyc_basics.specs.declared.limits.TheConstants.{MOST_PURE, MOST_DISJUNCTS}
+use Rattle.cyc_basics.specs.declared.limits.Limits.{Limits}
+use Rattle.cyc_basics.specs.declared.limits.TheConstants.{MOST_DISJUNCTS}
 use Rattle.heap_reader.specs.Flaws.{Found}
 
--- so many members kept of each list are no fewer than any limit allows, where so many spatial atoms are allowed
-pub record KeepsEnough (most m : ℕ) : Type 0 where
-  pub pure : MOST_PURE ≤ m
-  pub spatial : most ≤ m
-  pub heaps : MOST_DISJUNCTS ≤ m
+-- so many members kept of each list are no fewer than what is allowed of it
+pub record KeepsEnough (most : Limits) (m : ℕ) : Type 0 where
+  pub pure : most.pure ≤ m
+  pub spatial : most.spatial ≤ m
+  pub cases : most.cases ≤ m
+  pub disjuncts : MOST_DISJUNCTS ≤ m
 
 -- what is kept of a tree has the flaw that the tree has
 abbrev pub HasItsFlaw : {X : Type 0} → (X → Found) → (X → X) → X → Type 0

@@ -54,7 +54,7 @@ is_at_line count (Halting i a) = nat_lt 0 i && nat_le i count
 abbrev pub are_at_lines : ℕ → List FileNode → Bool
 are_at_lines count ns = list_all (λ n. is_at_line count n.judgement) ns
 
--- a predicate has at most sixteen cases
+-- a predicate has at most as many cases as in any version
 abbrev pub has_few_cases : Definition → Bool
 has_few_cases d = nat_le (length d.cases) MOST_CASES
 

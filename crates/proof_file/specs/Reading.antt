@@ -4,7 +4,7 @@ use Rattle.cyc_lex.specs.declared.fault.ReadFault.{ReadFault}
 use Rattle.cyc_lex.specs.Placed.{Placed}
 use Rattle.proof_syntax.specs.Trees.{File}
 use Rattle.proof_syntax.specs.Grammar.{file}
-use Rattle.heap_syntax.specs.Versions.{most_spatial}
+use Rattle.heap_syntax.specs.Versions.{limits}
 use Rattle.heap_reader.specs.Reading as reading
 use Rattle.proof_file.specs.declared.file.ProofFile.{ProofFile}
 use Rattle.proof_file.specs.Flaws.{headings, file_flaw}
@@ -14,7 +14,7 @@ use Rattle.proof_file.specs.Values.{definition_value, node_value}
 -- the file that a tree says
 pub record IsFileOf (tree : File) (f : ProofFile) : Type 0 where
   pub version : f.version ≡ tree.version
-  pub most : f.defs.most ≡ most_spatial tree.version
+  pub most : f.defs.most ≡ limits tree.version
   pub definitions : f.defs.list ≡ map (definition_value (headings tree.definitions)) tree.definitions
   pub program : f.program ≡ program_value tree.lines
   pub nodes : f.nodes ≡ map (node_value (headings tree.definitions)) tree.nodes

@@ -1,6 +1,6 @@
 // Files that are made part by part: what stands before the nodes, each node, and the whole of them.
 ghost use Rattle.std.specs.Prelude.{◌≡◌, ◌+◌, ◌<◌, ◌≤◌, ◌^◌, None, length, map, IfOk};
-ghost use Rattle.heap_syntax.specs.Versions.{most_spatial};
+ghost use Rattle.heap_syntax.specs.Versions.{limits};
 ghost use Rattle.heap_reader.specs.Flaws.{IsWalk};
 ghost use Rattle.proof_syntax.specs.Grammar.{node};
 ghost use Rattle.proof_syntax.specs.Trees.{definition_of, node_of};
@@ -74,8 +74,9 @@ fn front(
     ensures { IsWalk result (file_flaw (front_of version (map definition_of definitions.now) lines.now))
         (first_node (front_of version (map definition_of definitions.now) lines.now)) }
 {
-    let first_line = walk_definitions(heads, version.most_spatial(), 4, definitions)?;
-    walk_lines(&ProgramVariables, first_line, lines)
+    let most = version.limits();
+    let first_line = walk_definitions(heads, most, 4, definitions)?;
+    walk_lines(&ProgramVariables, most, first_line, lines)
 }
 
 /// The first flaw of what stands before the nodes of a file; the heads are those of its definitions.
@@ -102,13 +103,13 @@ pub fn front_values(
 ) -> Result<FileFront, OutOfMemory>
     requires known { heads.now ≡ headings (map definition_of definitions.now) }
     requires right { file_flaw (front_of version (map definition_of definitions.now) lines.now) ≡ None }
-    ensures most { IfOk result (λ f. f.defs.most ≡ most_spatial version) }
+    ensures most { IfOk result (λ f. f.defs.most ≡ limits version) }
     ensures definitions { IfOk result
         (λ f. f.defs.list ≡ map (definition_value heads.now) (map definition_of definitions.now)) }
     ensures program { IfOk result (λ f. f.program ≡ program_value lines.now) }
 {
     let values = definition_values(alloc, heads, definitions)?;
-    let defs = Defs::from_vec(alloc, version.most_spatial(), values);
+    let defs = Defs::from_vec(alloc, version.limits(), values);
     let program = program(alloc, &ProgramVariables, lines)?;
     Ok(FileFront { defs, program })
 }
@@ -127,10 +128,10 @@ pub fn node_of_tree(
     requires fits { node.fits (node_of tree.now) }
     requires few { length heads.now ≤ MOST_PREDICATES }
     requires room { at + node_span (node_of tree.now) < 2 ^ 64 }
-    ensures { IsNodeMade (node_flaw (most_spatial version) heads.now lines n at (node_of tree.now))
+    ensures { IsNodeMade (node_flaw (limits version) heads.now lines n at (node_of tree.now))
         (node_value heads.now (node_of tree.now)) result }
 {
-    walk_node(heads, version.most_spatial(), lines, n, at, tree)?;
+    walk_node(heads, version.limits(), lines, n, at, tree)?;
     Ok(value_of_node(alloc, heads, tree)?)
 }
 

@@ -1,6 +1,6 @@
 // Proof files as values.
 ghost use Rattle.std.specs.Prelude.{◌≡◌, ◌<◌, ◌≤◌, None, length, true};
-ghost use Rattle.heap_syntax.specs.Versions.{most_spatial};
+ghost use Rattle.heap_syntax.specs.Versions.{limits};
 ghost use Rattle.proof_syntax.specs.Grammar.{file};
 ghost use Rattle.proof_file.specs.Readable.{are_readable, are_universal_commands, are_at_lines, all_have_few_cases};
 ghost use Rattle.proof_file.specs.Flaws.{file_flaw};
@@ -29,7 +29,7 @@ pub struct ProofFile {
     ghost universal: { are_universal_commands program ≡ true },
     ghost at_lines: { are_at_lines (length program) nodes ≡ true },
     ghost cases: { all_have_few_cases defs.list ≡ true },
-    ghost limit: { defs.most ≡ most_spatial version },
+    ghost limit: { defs.most ≡ limits version },
     ghost fits: { file.fits (tree_of version defs.list program nodes) } by { file-fit (tree_of version defs.list program nodes) },
     ghost flawless: { file_flaw (tree_of version defs.list program nodes) ≡ None },
 }

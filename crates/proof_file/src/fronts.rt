@@ -1,5 +1,6 @@
 // The first flaw of a file, as it shows in what is kept of its trees.
 ghost use Rattle.std.specs.Prelude.{ℕ, List, map};
+ghost use Rattle.cyc_basics.specs.declared.limits.Limits.{Limits};
 ghost use Rattle.heap_syntax.specs.declared.keep.Keep.TheVariants.{Beyond};
 ghost use Rattle.heap_syntax.specs.DefinitionTrees.{Definition};
 ghost use Rattle.heap_syntax.specs.DefinitionKeeping.{definition_front};
@@ -16,14 +17,16 @@ ghost use Rattle.proof_file.specs.Fronts.{KeepsEnough, HasItsFlaw, IsWholeIfFlaw
 /// and without a flaw all is kept: so a reader need not hold what stands after a member that is one too many. The
 /// function does nothing.
 pub fn flaws_show_in_what_is_kept()
-    ensures definitions { (most m : ℕ) → KeepsEnough most m → (hs : List Heading) (n k : ℕ) (ds : List Definition)
+    ensures definitions { (most : Limits) (m : ℕ) → KeepsEnough most m → (hs : List Heading) (n k : ℕ)
+        (ds : List Definition)
         → HasItsFlaw (listed_flaw (definition_flaw most hs) definition_span n k)
         (map (definition_front (Beyond m))) ds }
-    ensures whole_definitions { (most m : ℕ) → KeepsEnough most m → (hs : List Heading) (n k : ℕ) (ds : List Definition)
+    ensures whole_definitions { (most : Limits) (m : ℕ) → KeepsEnough most m → (hs : List Heading) (n k : ℕ)
+        (ds : List Definition)
         → IsWholeIfFlawless (listed_flaw (definition_flaw most hs) definition_span n k)
         (map (definition_front (Beyond m))) ds }
-    ensures node { (most m : ℕ) → KeepsEnough most m → (hs : List Heading) (count n k : ℕ) (x : Node)
+    ensures node { (most : Limits) (m : ℕ) → KeepsEnough most m → (hs : List Heading) (count n k : ℕ) (x : Node)
         → HasItsFlaw (node_flaw most hs count n k) (node_front (Beyond m)) x }
-    ensures whole_node { (most m : ℕ) → KeepsEnough most m → (hs : List Heading) (count n k : ℕ) (x : Node)
+    ensures whole_node { (most : Limits) (m : ℕ) → KeepsEnough most m → (hs : List Heading) (count n k : ℕ) (x : Node)
         → IsWholeIfFlawless (node_flaw most hs count n k) (node_front (Beyond m)) x }
 {}

@@ -1,6 +1,6 @@
 // A walk over a node's tree in the order of its tokens, up to the first flaw. Each function is given the number of the
-// part's first token and gives that of the token after it and the one that follows every part of its kind. A heap has
-// at most `most` spatial atoms.
+// part's first token and gives that of the token after it and the one that follows every part of its kind. `most` are
+// the limits of the file's version.
 ghost use Rattle.std.specs.Prelude.{◌≡◌, ◌+◌, ◌<◌, ◌^◌, nat_lt};
 ghost use Rattle.cyc_lex.specs.declared.fault.What.TheVariants.{Variable};
 ghost use Rattle.proof_syntax.specs.Trees.{heap_of, entailment_of, judgement_of, link_of, reason_of, node_of};
@@ -12,7 +12,7 @@ ghost use Rattle.proof_file.specs.Flaws.{term_flaw, entailment_flaw, state_flaw,
 ghost use Rattle.proof_file.specs.Flaws.{reason_flaw, node_flaw};
 ghost use Rattle.heap_reader.specs.declared.definitions.scope.Scope.TheVariants.{Outside};
 
-use cyc_basics::limits::{GREATEST_VARIABLE, MOST_NODES};
+use cyc_basics::limits::{GREATEST_VARIABLE, Limits, MOST_NODES};
 use cyc_lex::{IllFault, What};
 use heap_reader::definitions::Scope;
 use heap_reader::{Flaw, Heads, TermReader, ill, over, walk_heap, walk_heaps};
@@ -22,7 +22,7 @@ use proof_syntax::{
 
 fn entailment(
     heads: &Heads<'_>,
-    most: u8,
+    most: Limits,
     at: usize,
     tree: &EntailmentTree<'_>,
 ) -> Result<usize, Flaw>
@@ -44,7 +44,7 @@ fn entailment(
 /// The number of a line, one of so many, and the symbolic state there.
 fn state(
     heads: &Heads<'_>,
-    most: u8,
+    most: Limits,
     count: usize,
     at: usize,
     line: u32,
@@ -62,7 +62,7 @@ fn state(
 
 fn judgement(
     heads: &Heads<'_>,
-    most: u8,
+    most: Limits,
     count: usize,
     at: usize,
     tree: &JudgementTree<'_>,
@@ -140,7 +140,7 @@ fn split(at: usize, left: TermTree, right: TermTree) -> Result<usize, Flaw>
     Scope::Outside.walk(behind - 1, right)
 }
 
-fn reason(heads: &Heads<'_>, most: u8, at: usize, tree: &ReasonTree<'_>) -> Result<usize, Flaw>
+fn reason(heads: &Heads<'_>, most: Limits, at: usize, tree: &ReasonTree<'_>) -> Result<usize, Flaw>
     requires { at + reason_span (reason_of tree.now) < 2 ^ 64 }
     ensures { IsWalk result
         (reason_flaw most heads.now at (reason_of tree.now)) (at + reason_span (reason_of tree.now)) }
@@ -178,7 +178,7 @@ fn premises(at: usize, numbers: &[u32]) -> usize
 /// A node of a file that has so many lines.
 pub fn walk_node(
     heads: &Heads<'_>,
-    most: u8,
+    most: Limits,
     count: usize,
     n: usize,
     at: usize,

@@ -1,6 +1,7 @@
 -- The rules that an entailment within the limits is offered bring in nothing beyond them.
 use Rattle.std.proofs.Common.{ℕ, Bool, List, [], ◌∷◌, ◌++◌, map, Option, Some, None}
 use Rattle.std.specs.List.{filter}
+use Rattle.cyc_basics.specs.declared.limits.Limits.{Limits}
 use Rattle.heap_formula.specs.declared.atoms.Pure.{Pure}
 use Rattle.heap_formula.specs.declared.atoms.Spatial.{Spatial}
 use Rattle.heap_formula.specs.declared.atoms.Spatial.TheVariants.{Cell, Pred}
@@ -34,7 +35,7 @@ use Rattle.proof_search.proofs.Instances.{instance_rules, equations_within, fiel
 
 -- ---- rules without terms and formulas
 
-module _ (most : ℕ) (ds : List Definition) where
+module _ (most : Limits) (ds : List Definition) where
   pub rewrite_within : (k : ℕ) (o : Option Side) → Each (IsRuleWithin most ds) (rewrite_at k o)
   rewrite_within k None = tt
   rewrite_within k (Some side) = (tt, tt)

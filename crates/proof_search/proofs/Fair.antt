@@ -99,7 +99,7 @@ module _ (t : Theory) (goal : Judgement) (limits : IsWithinLimits t goal) where
   is_small : IsSmallProblem t goal
   is_small = record {
     most = limits.most;
-    cases = are_few t.most t.definitions t.definitions limits.definitions;
+    cases = are_few t.most t.definitions limits.most t.definitions limits.definitions;
     short = short_within t goal limits.goal_within;
   }
 
@@ -133,7 +133,7 @@ module _ (t : Theory) (goal : Judgement) (limits : IsWithinLimits t goal) where
 
       rules : Each (IsRuleWithin t.most t.definitions) (rules_offered t graph (length nodes) g.premise.judgement)
       rules = rules_within t graph (length nodes)
-          g.premise.judgement limits.some limits.definitions limits.program occur.goal
+          g.premise.judgement limits.some limits.most limits.definitions limits.program occur.goal
 
   -- the premises of a reason within the limits are within them
   premises_occur : (nodes : List MadeNode) (g : OpenGoal) (r : Reason) (ps : List (Subgoal Judgement))

@@ -4,6 +4,8 @@ use Rattle.std.proofs.Common.{◌≡◌, ℕ, ◌≤◌, true, List, [], map, le
 use Rattle.std.proofs.Common.{arith}
 use Rattle.std.proofs.lemmas.List.{length-map}
 use Rattle.std.specs.Prelude.{Ok, Err}
+use Rattle.cyc_basics.specs.Limits.{AreLimits}
+use Rattle.cyc_basics.specs.declared.limits.TheConstants.{MOST_CASES}
 use Rattle.heap_formula.specs.declared.atoms.Spatial.{Spatial}
 use Rattle.heap_formula.specs.declared.judgements.Judgement.{Judgement}
 use Rattle.heap_formula.specs.declared.judgements.Pair.{Pair}
@@ -63,7 +65,7 @@ each_premise t g ps short stay fit k p at =
 answered_premises : (t : Theory) (g : OpenGoal) (answer : Answer) (ps : List (Subgoal Judgement))
     → IsShort t.most g.premise.judgement → OnPremises (StaysShort t.most g.premise.judgement) answer
     → OnPremises (PremiseFits g.premise.judgement) answer →
-    ((qs : List Premise) → answer ≡ Ok qs → length qs ≤ 16) → answered answer ≡ Some ps
+    ((qs : List Premise) → answer ≡ Ok qs → length qs ≤ MOST_CASES) → answered answer ≡ Some ps
     → ArePremises (calculus_of t) (IsShort t.most) g ps
 answered_premises t g (Err f) ps short stay fit few h = absurd (let e : None ≡ Some ps = h in cc)
 answered_premises t g (Ok qs) ps short stay fit few h =
@@ -108,10 +110,10 @@ beside_none (Some e) ps h = let x : Some [] ≡ Some ps = h in cc
 
 -- ---- the calculus
 
-pub small_is_fair : (t : Theory) → t.most ≤ 32 → Each (λ d. length d.cases ≤ 16) t.definitions
-    → IsFair (calculus_of t) (λ j. length (antecedent j).spatial ≤ t.most) (λ r. Unit {0})
+pub small_is_fair : (t : Theory) → AreLimits t.most → Each (λ d. length d.cases ≤ MOST_CASES) t.definitions
+    → IsFair (calculus_of t) (λ j. length (antecedent j).spatial ≤ t.most.spatial) (λ r. Unit {0})
 small_is_fair t most cases = record {
-  positions = λ j short. places_set (antecedent j).spatial (omega (arith, short, most));
+  positions = λ j short. places_set (antecedent j).spatial (omega (arith, short, most.spatial));
   offers = λ nodes g r occur offered. tt;
   premises = λ nodes g r ps occur allowed h. have_premises nodes g r ps occur.goal h;
   links_back = λ nodes g r e occur allowed h. lead_back nodes g r e h;

@@ -1,9 +1,12 @@
 -- The formulas that a state's atoms are folded into are within the limits.
 use Rattle.std.proofs.Common.{◌≡◌, ℕ, ◌<◌, ◌≤◌, Bool, true, false, List, [], ◌∷◌, ◌++◌, map, length, Option, Some, None}
 use Rattle.std.proofs.Common.{ap, ◌∙◌, arith, le-leb}
-use Rattle.std.specs.Prelude.{IfSome, slice_get, nat_eq, if◌then◌else◌}
+use Rattle.std.proofs.lemmas.Bool.{and_from}
+use Rattle.std.specs.Prelude.{IfSome, slice_get, nat_eq, nat_le, if◌then◌else◌}
 use Rattle.std.proofs.lemmas.Bool.Decides.{Decides-eqb}
 use Rattle.std.proofs.lemmas.List.{length-map, length-take-le}
+use Rattle.cyc_basics.specs.Limits.{AreLimits}
+use Rattle.cyc_basics.specs.declared.limits.Limits.{Limits}
 use Rattle.heap_formula.specs.declared.terms.Term.{Term}
 use Rattle.heap_formula.specs.declared.terms.Term.TheVariants.{Nil, Univ, Exist}
 use Rattle.heap_formula.specs.declared.atoms.Spatial.{Spatial}
@@ -130,7 +133,7 @@ use_is_known o d n at same =
     ap (λ (p : Option Definition). or_later (arity_fault p n) None) at
     ∙ ap (λ b. or_later (if b then None else Some Arity) None) here
 
-module _ (most : ℕ) (some : 0 < most) (ds : List Definition) where
+module _ (most : Limits) (some : 0 < most.spatial) (bounded : AreLimits most) (ds : List Definition) where
   folded_within : (q : ℕ) (d : Definition) (s : Binding) → slice_get ds q ≡ Some d → d.arity ≤ 8 → HasValues s
       → IsHeapWithin most ds (folded q d.arity s)
   folded_within q d s at few h =
@@ -138,7 +141,8 @@ module _ (most : ℕ) (some : 0 < most) (ds : List Definition) where
       let below : terms_numbers terms ≤ 65535 = below_each number_bound 65535 terms
       (each_mapped IsLow (bound_term s) (parameters d.arity) (parameters_have s d.arity h)) in
       record {
-        short = le-leb 1 most some;
+        short = and_from (nat_le 0 most.pure) (nat_le 1 most.spatial) (le-leb 0 most.pure (omega arith))
+            (le-leb 1 most.spatial some);
         numbers = le-leb _ _ (omega arith);
         known = use_is_known (slice_get ds q) d (length terms) at
             (length-map (parameters d.arity) (bound_term s) ∙ parameters_count d.arity few);
@@ -159,4 +163,8 @@ module _ (most : ℕ) (some : 0 < most) (ds : List Definition) where
   pub folds_within : (a : SymbolicHeap) → Each (InSpatial IsLow) a.spatial → Each (IsDefinitionWithin most ds) ds
       → Each (IsRuleWithin most ds) (folds a ds)
   folds_within a n w = each_placed (IsRuleWithin most ds) (folds_of a) ds
-      (λ q d at. folds_of_within a q d n at (each_at (IsDefinitionWithin most ds) ds q d at w).arity)
+      (λ q d at. folds_of_within a q d n at (omega (
+        arith,
+        (each_at (IsDefinitionWithin most ds) ds q d at w).arity,
+        bounded.arguments,
+      )))

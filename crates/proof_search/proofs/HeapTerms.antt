@@ -1,5 +1,6 @@
 -- The terms of a heap within the limits.
 use Rattle.std.proofs.Common.{ℕ, ◌≤◌, List, [], ◌∷◌, map, arith, leb-true}
+use Rattle.cyc_basics.specs.declared.limits.Limits.{Limits}
 use Rattle.heap_formula.specs.declared.atoms.Spatial.{Spatial}
 use Rattle.heap_formula.specs.declared.atoms.Spatial.TheVariants.{Cell, Pred}
 use Rattle.heap_formula.specs.declared.judgements.Judgement.{Judgement}
@@ -30,17 +31,17 @@ spatials_within = each_of_both IsUniversalSpatial (InSpatial IsLow) HasTerms spa
 
 -- ---- universal numbers are numbers
 
-heap_below : (most : ℕ) (ds : List Definition) (a : SymbolicHeap) → IsHeapWithin most ds a → heap_numbers a ≤ 65535
+heap_below : (most : Limits) (ds : List Definition) (a : SymbolicHeap) → IsHeapWithin most ds a → heap_numbers a ≤ 65535
 heap_below most ds a w = leb-true (heap_numbers a) 65535 w.numbers
 
-heaps_le : (most : ℕ) (ds : List Definition) (bs : List SymbolicHeap) → Each (IsHeapWithin most ds) bs
+heaps_le : (most : Limits) (ds : List Definition) (bs : List SymbolicHeap) → Each (IsHeapWithin most ds) bs
     → max_of (map heap_bound bs) ≤ 65535
 heaps_le most ds [] a = omega arith
 heaps_le most ds (b ∷ bs) a = let h = heap_below most ds b a.0 in let l = heap_le b in let r = heaps_le most ds bs a.1
     in omega arith
 
 -- the universal numbers of a judgement's heaps
-pub judgement_below : (most : ℕ) (ds : List Definition) (j : Judgement) → Each (IsHeapWithin most ds) (heaps_of j)
+pub judgement_below : (most : Limits) (ds : List Definition) (j : Judgement) → Each (IsHeapWithin most ds) (heaps_of j)
     → judgement_bound j ≤ 65535
 judgement_below most ds (Entail a bs) w = let h = heap_below most ds a w.0 in let l = heap_le a in
     let r = heaps_le most ds bs w.1 in omega arith

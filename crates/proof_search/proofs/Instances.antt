@@ -3,6 +3,7 @@ use Rattle.std.proofs.Common.{ℕ, ◌≤◌, Bool, true, false, ◌&&◌, List,
 use Rattle.std.proofs.Common.{arith}
 use Rattle.std.specs.Prelude.{IfSome, nat_eq, if◌then◌else◌}
 use Rattle.std.specs.List.{list_any}
+use Rattle.cyc_basics.specs.declared.limits.Limits.{Limits}
 use Rattle.heap_formula.specs.declared.terms.Term.{Term}
 use Rattle.heap_formula.specs.declared.terms.Term.TheVariants.{Nil, Univ, Exist}
 use Rattle.heap_formula.specs.declared.atoms.Pure.{Pure}
@@ -28,7 +29,7 @@ use Rattle.std.specs.Option.{option_or}
 abbrev pub IsInstanceWithin : Instance → Type 0
 IsInstanceWithin i = (i.variable ≤ 65534) × IsTermWithin i.term
 
-pub instance_rules : (most : ℕ) (ds : List Definition) (is : List Instance) → Each IsInstanceWithin is
+pub instance_rules : (most : Limits) (ds : List Definition) (is : List Instance) → Each IsInstanceWithin is
     → Each (IsRuleWithin most ds) (map instance_rule is)
 instance_rules most ds is a = each_mapped (IsRuleWithin most ds) instance_rule is a
 

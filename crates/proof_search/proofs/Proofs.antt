@@ -1,6 +1,9 @@
 -- What is found is a proof of the problem's goal.
 use Rattle.std.proofs.Common.{◌≡◌, ℕ, ◌<◌, ◌≤◌, List, [], map, Some, slice_get, length, arith, sym, ap, subst, ◌∙◌}
 use Rattle.std.proofs.lemmas.Option.{slice_get_within, same_Some}
+use Rattle.cyc_basics.specs.Limits.{AreLimits}
+use Rattle.cyc_basics.specs.declared.limits.Limits.{Limits}
+use Rattle.cyc_basics.specs.declared.limits.TheConstants.{MOST_SPATIAL}
 use Rattle.heap_formula.specs.declared.judgements.Judgement.{Judgement}
 use Rattle.trace_pairs.specs.Lasso.{AllProgress}
 use Rattle.buchi_inclusion.specs.Answers.{HasAtMost, state_limit}
@@ -19,8 +22,8 @@ use Rattle.proof_check.specs.Verdicts.{IsCorrect}
 use Rattle.heap_formula.proofs.AllMembers.{each_at, each_imply}
 use Rattle.proof_check.proofs.KeptFacts.{root_holds}
 use Rattle.heap_syntax.specs.declared.version.Version.{Version}
-use Rattle.heap_syntax.specs.declared.version.Version.TheVariants.{One, Two}
-use Rattle.heap_syntax.specs.Versions.{most_spatial}
+use Rattle.heap_syntax.specs.declared.version.Version.TheVariants.{One, Two, Three}
+use Rattle.heap_syntax.specs.Versions.{limits as limits_of}
 use Rattle.heap_reader.proofs.Fitting.{most_fits}
 use Rattle.rule_book.specs.Limits.{IsDefinitionWithin, IsHeapWithin, IsJudgementWithin}
 use Rattle.rule_book.proofs.Heaps.{short_spatials}
@@ -40,21 +43,25 @@ use Rattle.proof_search.specs.Derivations.{IsItsSearch}
 use Rattle.proof_search.specs.Outcomes.{theory_for, search_for, reasons_of, IsProofFor}
 use Rattle.proof_search.proofs.FileNodes.{reasons_made}
 
--- the limit of each version
-some_atoms : (version : Version) → 0 < most_spatial version
+-- each version allows a spatial atom
+some_atoms : (version : Version) → 0 < (limits_of version).spatial
 some_atoms One = omega arith
 some_atoms Two = omega arith
+some_atoms Three = omega arith
 
-limit_bounded : (problem : Problem) → problem.defs.most ≤ 32
-limit_bounded problem = subst (λ (most : ℕ). most ≤ 32) (sym problem.limit) (most_fits problem.version)
+limit_bounded : (problem : Problem) → AreLimits problem.defs.most
+limit_bounded problem = subst (λ (most : Limits). AreLimits most) (sym problem.limit) (most_fits problem.version)
 
-limit_positive : (problem : Problem) → 0 < problem.defs.most
-limit_positive problem = subst (λ (most : ℕ). 0 < most) (sym problem.limit) (some_atoms problem.version)
+limit_positive : (problem : Problem) → 0 < problem.defs.most.spatial
+limit_positive problem = subst (λ (most : Limits). 0 < most.spatial) (sym problem.limit) (some_atoms problem.version)
 
 pub are_small : (problem : Problem) → IsWithinLimits (theory_for problem) problem.goal → Each IsSmall problem.defs.list
 are_small problem limits =
     each_imply (IsDefinitionWithin problem.defs.most problem.defs.list) IsSmall
-    (λ d h. record { parameters = h.arity; cases = h.few }) problem.defs.list limits.definitions
+    (λ d h. record {
+      parameters = omega (arith, h.arity, limits.most.arguments);
+      cases = omega (arith, h.few, limits.most.cases);
+    }) problem.defs.list limits.definitions
 
 -- the moves, with what they found
 pub record HasFound (problem : Problem) (moves : Derivation) : Type 0 where
@@ -93,13 +100,13 @@ pub some_node : (t : Theory) (goal : Judgement) (nodes : List FileNode) → AreP
 some_node t goal nodes proof = let n = slice_get_within nodes 0 proof.root proof.is_root in omega (arith, n)
 
 -- an antecedent within the limits has few spatial atoms
-few_atoms : (most : ℕ) → most ≤ 32 → (ds : List Definition) (count : ℕ) (j : Judgement)
-    → IsJudgementWithin most ds count j → length (antecedent j).spatial ≤ 32
+few_atoms : (most : Limits) → AreLimits most → (ds : List Definition) (count : ℕ) (j : Judgement)
+    → IsJudgementWithin most ds count j → length (antecedent j).spatial ≤ MOST_SPATIAL
 few_atoms most bounded ds count j h =
     let few = short_spatials most (antecedent j) (first_heap (IsHeapWithin most ds) j h.heaps).short in
-    omega (arith, few, bounded)
+    omega (arith, few, bounded.spatial)
 
-small_heaps : (t : Theory) (nodes : List FileNode) → t.most ≤ 32
+small_heaps : (t : Theory) (nodes : List FileNode) → AreLimits t.most
     → Each (IsNodeWithin t.most t.definitions (length t.lines)) nodes → HasSmallHeaps nodes
 small_heaps t nodes bounded within v node at =
     let w = each_at (IsNodeWithin t.most t.definitions (length t.lines)) nodes v node at within in

@@ -2,6 +2,8 @@
 use Rattle.std.proofs.Common.{ℕ, ◌<◌, List, [], ◌∷◌, ◌++◌, length, Option, Some, None}
 use Rattle.std.specs.Prelude.{take, ◌&&◌}
 use Rattle.std.specs.List.{filter, list_any}
+use Rattle.cyc_basics.specs.Limits.{AreLimits}
+use Rattle.cyc_basics.specs.declared.limits.Limits.{Limits}
 use Rattle.heap_formula.specs.declared.terms.Term.{Term}
 use Rattle.heap_formula.specs.declared.judgements.Judgement.{Judgement}
 use Rattle.heap_formula.specs.declared.judgements.Judgement.TheVariants.{Entail, Term as Runs}
@@ -29,7 +31,7 @@ use Rattle.proof_search.proofs.Folding.{folds_within}
 
 -- ---- states of a program
 
-module _ (most : ℕ) (ds : List Definition) where
+module _ (most : Limits) (ds : List Definition) where
   unfolds_for_within : (a : SymbolicHeap) (o : Option Term) → Each (IsRuleWithin most ds) (unfolds_for a o)
   unfolds_for_within a None = tt
   unfolds_for_within a (Some t) = each_anywhere (IsRuleWithin most ds) (unfold_for a.pure t) a.spatial
@@ -49,9 +51,10 @@ module _ (most : ℕ) (ds : List Definition) where
       (λ k x. rewrite_within most ds k (state_side p a k x))) tt)))
 
 state_after_within : (t : Theory) (nodes : List GraphNode) (goal : ℕ) (j : Judgement) (i : ℕ) (a : SymbolicHeap)
-    → 0 < t.most → Each (IsDefinitionWithin t.most t.definitions) t.definitions → IsHeapWithin t.most t.definitions a
+    → 0 < t.most.spatial → AreLimits t.most → Each (IsDefinitionWithin t.most t.definitions) t.definitions
+    → IsHeapWithin t.most t.definitions a
     → Each (IsRuleWithin t.most t.definitions) (state_after t nodes goal j i a)
-state_after_within t nodes goal j i a some ds w =
+state_after_within t nodes goal j i a some bounded ds w =
     let P = IsRuleWithin t.most t.definitions in
     let missing = misses_cell (exec_answer t.most t.lines j) in
     let wanted = wanted_cell (counted_from_one t.lines i) in
@@ -59,20 +62,20 @@ state_after_within t nodes goal j i a some ds w =
     each_filter P (is_applicable t j) (folds_if t nodes goal i a ++ (Exec ∷ last))
     (each_append P (folds_if t nodes goal i a) (Exec ∷ last)
     (each_if P (climbs nodes goal goal && list_any (works_on i) (take goal nodes)) (folds a t.definitions)
-    (folds_within t.most some t.definitions a (small t.most t.definitions a w).low.1 ds))
+    (folds_within t.most some bounded t.definitions a (small t.most t.definitions a w).low.1 ds))
     (tt, each_if P missing (unfolds_for a wanted) (unfolds_for_within t.most t.definitions a wanted)))
 
 -- ---- either judgement
 
-pub rules_within : (t : Theory) (nodes : List GraphNode) (goal : ℕ) (j : Judgement) → 0 < t.most
-    → Each (IsDefinitionWithin t.most t.definitions) t.definitions → IsProgram t.lines
+pub rules_within : (t : Theory) (nodes : List GraphNode) (goal : ℕ) (j : Judgement) → 0 < t.most.spatial
+    → AreLimits t.most → Each (IsDefinitionWithin t.most t.definitions) t.definitions → IsProgram t.lines
     → IsJudgementWithin t.most t.definitions (length t.lines) j
     → Each (IsRuleWithin t.most t.definitions) (rules_offered t nodes goal j)
-rules_within t nodes goal (Entail a bs) some ds lines w =
+rules_within t nodes goal (Entail a bs) some bounded ds lines w =
     each_or_else (IsRuleWithin t.most t.definitions) (rules_before t (Entail a bs))
     (rules_after t nodes goal (Entail a bs)) (before_within t.most t.definitions t (Entail a bs) a)
     (after_within t.most t.definitions t (Entail a bs) a bs w.heaps.0 w.heaps.1 w.universal)
-rules_within t nodes goal (Runs i a) some ds lines w =
+rules_within t nodes goal (Runs i a) some bounded ds lines w =
     each_or_else (IsRuleWithin t.most t.definitions) (rules_before t (Runs i a)) (rules_after t nodes goal (Runs i a))
     (state_before_within t.most t.definitions t (Runs i a) i a)
-    (state_after_within t nodes goal (Runs i a) i a some ds w.heaps.0)
+    (state_after_within t nodes goal (Runs i a) i a some bounded ds w.heaps.0)

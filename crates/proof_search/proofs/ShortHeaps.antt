@@ -1,8 +1,9 @@
--- The premises of a rule have at most so many spatial atoms on the left, as its judgement has.
+-- The premises of a rule have no more spatial atoms on the left than the version allows, as its judgement has.
 use Rattle.std.proofs.Common.{◌≡◌, ℕ, ◌+◌, ◌≤◌, max, Bool, true, false, cond, List, [], ◌∷◌, ◌++◌, map, length}
 use Rattle.std.proofs.Common.{slice_get, nat_eq, arith}
 use Rattle.std.proofs.lemmas.List.{length-map}
 use Rattle.std.specs.Prelude.{Ok, if◌then◌else◌}
+use Rattle.cyc_basics.specs.declared.limits.Limits.{Limits}
 use Rattle.heap_formula.specs.declared.terms.Term.{Term}
 use Rattle.heap_formula.specs.declared.terms.Term.TheVariants.{Nil, Univ}
 use Rattle.heap_formula.specs.declared.atoms.Pure.{Pure}
@@ -51,69 +52,70 @@ use Rattle.std.specs.List.{list_all}
 use Rattle.rule_table.proofs.EmptyPremises.{empty_on}
 
 -- the antecedent has at most so many spatial atoms
-abbrev pub IsShort : ℕ → Judgement → Type 0
-IsShort most j = length (antecedent j).spatial ≤ most
+abbrev pub IsShort : Limits → Judgement → Type 0
+IsShort most j = length (antecedent j).spatial ≤ most.spatial
 
-abbrev pub StaysShort : ℕ → Judgement → Premise → Type 0
+abbrev pub StaysShort : Limits → Judgement → Premise → Type 0
 StaysShort most j p = IsShort most j → IsShort most p.judgement
 
 -- ---- rules that add spatial atoms test for it
 
-first_short : (most : ℕ) → (j : Judgement) → list_all (is_short most) (heaps_of j) ≡ true → IsShort most j
+first_short : (most : Limits) → (j : Judgement) → list_all (is_short most) (heaps_of j) ≡ true → IsShort most j
 first_short most (Entail a bs) e = short_spatials most a (and_parts (is_short most a) (list_all (is_short most) bs) e).0
 first_short most (Runs i a) e = short_spatials most a (and_parts (is_short most a) true e).0
 
-tested_short : (most : ℕ) → (j : Judgement) (ps : List Premise) → each_heap (is_short most) ps ≡ true
+tested_short : (most : Limits) → (j : Judgement) (ps : List Premise) → each_heap (is_short most) ps ≡ true
     → Each (StaysShort most j) ps
 tested_short most j [] e = tt
 tested_short most j (p ∷ ps) e =
     let b = and_parts (list_all (is_short most) (heaps_of p.judgement)) (each_heap (is_short most) ps) e in
     ((λ h. first_short most p.judgement b.0), tested_short most j ps b.1)
 
-limited_short : (most : ℕ) → (j : Judgement) (ps : List Premise) → OnPremises (StaysShort most j) (limited most ps)
+limited_short : (most : Limits) → (j : Judgement) (ps : List Premise) → OnPremises (StaysShort most j) (limited most ps)
 limited_short most j ps = limited_gives (OnPremises (StaysShort most j)) (λ f. tt) most ps
     (λ s n. tested_short most j ps s)
 
 -- ---- the others keep the atoms, or drop some
 
-pures_short : (most : ℕ) → (j : Judgement) (xs : List Pure) → StaysShort most j (with_pures j xs)
+pures_short : (most : Limits) → (j : Judgement) (xs : List Pure) → StaysShort most j (with_pures j xs)
 pures_short most (Entail a bs) xs h = h
 pures_short most (Runs i a) xs h = h
 
-rewritten_short : (most : ℕ) → (p : ℕ) (j : Judgement) (k : ℕ) (x : Pure) (v : ℕ) (u : Term)
+rewritten_short : (most : Limits) → (p : ℕ) (j : Judgement) (k : ℕ) (x : Pure) (v : ℕ) (u : Term)
     → StaysShort most j (rewritten p j k x v u)
 rewritten_short most p (Entail a bs) k x v u h = let e = length-map a.spatial (apply_spatial ((v, u) ∷ [])) in
     omega (arith, e, h)
 rewritten_short most p (Runs i a) k x v u h = let e = length-map a.spatial (apply_spatial ((v, u) ∷ [])) in
     omega (arith, e, h)
 
-side_short : (most : ℕ) → (p : ℕ) (j : Judgement) (k : ℕ) (x : Pure) (t u : Term)
+side_short : (most : Limits) → (p : ℕ) (j : Judgement) (k : ℕ) (x : Pure) (t u : Term)
     → OnPremises (StaysShort most j) (rewrite_side p j k x t u)
 side_short most p j k x (Univ v) u = (rewritten_short most p j k x v u, tt)
 side_short most p j k x t u = tt
 
-test_short : (most : ℕ) → (b : Bool) (p : ℕ) (j : Judgement) (k : ℕ) (x : Pure) (t u : Term)
+test_short : (most : Limits) → (b : Bool) (p : ℕ) (j : Judgement) (k : ℕ) (x : Pure) (t u : Term)
     → OnPremises (StaysShort most j) (cond b (Ok (one (with_pures j (without k (antecedent j).pure))))
     (rewrite_side p j k x t u))
 test_short most true p j k x t u = (pures_short most j (without k (antecedent j).pure), tt)
 test_short most false p j k x t u = side_short most p j k x t u
 
-atom_short : (most : ℕ) → (p : ℕ) (j : Judgement) (k : ℕ) (side : Side) (x : Pure)
+atom_short : (most : Limits) → (p : ℕ) (j : Judgement) (k : ℕ) (side : Side) (x : Pure)
     → OnPremises (StaysShort most j) (rewrite_atom p j k side x)
 atom_short most p j k side (Neq t u) = tt
 atom_short most p j k side (Eq t u) = test_short most (same_term t u) p j k (Eq t u) (named side t u) (unnamed side t u)
 
-unfold_short : (most : ℕ) → (ds : List Definition) (p : ℕ) (j : Judgement) (k : ℕ) (x : Spatial)
+unfold_short : (most : Limits) → (ds : List Definition) (p : ℕ) (j : Judgement) (k : ℕ) (x : Spatial)
     → OnPremises (StaysShort most j) (calls x (λ q ts. limited most
     (map (unfold_premise j k ts (fresh_number p j)) (cases_of ds q))))
 unfold_short most ds p j k (Cell t ts) = tt
 unfold_short most ds p j k (Pred q ts) = limited_short most j
     (map (unfold_premise j k ts (fresh_number p j)) (cases_of ds q))
 
-dropped_short : (most : ℕ) → (k : ℕ) (xs : List Spatial) → length xs ≤ most → length (without k xs) ≤ most
+dropped_short : (most : Limits) → (k : ℕ) (xs : List Spatial) → length xs ≤ most.spatial
+    → length (without k xs) ≤ most.spatial
 dropped_short most k xs h = let e = length-without xs k in omega (arith, e, h)
 
-right_short : (most : ℕ) → (ds : List Definition) (a b : SymbolicHeap) (k c : ℕ) (x : Spatial)
+right_short : (most : Limits) → (ds : List Definition) (a b : SymbolicHeap) (k c : ℕ) (x : Spatial)
     → OnPremises (StaysShort most (Entail a (b ∷ []))) (calls x
     (λ q ts. finds (slice_get (cases_of ds q) c) NoSuchCase (λ case.
     limited most (one (with_right a (unfolded b k (in_heap (right_term ts (heap_exists b)) case) ∷ []))))))
@@ -123,7 +125,7 @@ right_short most ds a b k c (Pred q ts) =
     limited_short most (Entail a (b ∷ [])) (one (with_right a
     (unfolded b k (in_heap (right_term ts (heap_exists b)) case) ∷ []))))
 
-command_short : (most : ℕ) → (i : ℕ) (a : SymbolicHeap) (n : ℕ) (c : Command)
+command_short : (most : Limits) → (i : ℕ) (a : SymbolicHeap) (n : ℕ) (c : Command)
     → OnPremises (StaysShort most (Runs i a)) (command_answer most i a n c)
 command_short most i a n Stop = tt
 command_short most i a n (Goto j) = limited_short most (Runs i a) (one (at_line j a a))
@@ -154,7 +156,7 @@ command_short most i a n (Free t) =
     })))
 
 -- the premises of a rule have short antecedents
-pub rule_stays_short : (most : ℕ) → (ds : List Definition) (lines : List Command) (j : Judgement) (rule : Rule)
+pub rule_stays_short : (most : Limits) → (ds : List Definition) (lines : List Command) (j : Judgement) (rule : Rule)
     → OnPremises (StaysShort most j) (rule_answer most ds lines j rule)
 rule_stays_short most ds lines j Absurd = needs_on (StaysShort most j) (is_absurd (antecedent j)) NotAbsurd (Ok [])
     (λ _. tt)
@@ -162,7 +164,7 @@ rule_stays_short most ds lines j (Rewrite k side) =
     finds_on (StaysShort most j) (slice_get (antecedent j).pure k) NoSuchAtom _
     (λ x at. atom_short most (variables_of lines j) j k side x)
 rule_stays_short most ds lines j (Split t u) =
-    limited_on (StaysShort most j) 32 (two (with_pure j (Eq t u)) (with_pure j (Neq t u))) (
+    limited_on (StaysShort most j) most (two (with_pure j (Eq t u)) (with_pure j (Neq t u))) (
       pures_short most j ((antecedent j).pure ++ Eq t u ∷ []),
       (pures_short most j ((antecedent j).pure ++ Neq t u ∷ []), tt),
     )
@@ -171,7 +173,7 @@ rule_stays_short most ds lines j (Distinct i k) =
     finds_on (StaysShort most j) (slice_get (antecedent j).spatial k) NoSuchAtom _ (λ y at_k.
     finds_on (StaysShort most j) (address_of x) NoCell _ (λ t is_t.
     finds_on (StaysShort most j) (address_of y) NoCell _ (λ u is_u.
-    limited_on (StaysShort most j) 32 (one (with_pure j (Neq t (if nat_eq i k then Nil else u))))
+    limited_on (StaysShort most j) most (one (with_pure j (Neq t (if nat_eq i k then Nil else u))))
     (pures_short most j ((antecedent j).pure ++ Neq t (if nat_eq i k then Nil else u) ∷ []), tt)))))
 rule_stays_short most ds lines j (Weaken k) =
     finds_on (StaysShort most j) (slice_get (antecedent j).pure k) NoSuchAtom _

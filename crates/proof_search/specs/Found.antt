@@ -1,6 +1,7 @@
 -- What a search finds, as a proof.
 use Rattle.std.specs.Prelude.{◌≡◌, ◌<◌, ◌≤◌, List, [], Some, length, slice_get}
-use Rattle.cyc_basics.specs.declared.limits.TheConstants.{MOST_NODES, MOST_SPATIAL}
+use Rattle.cyc_basics.specs.Limits.{AreLimits}
+use Rattle.cyc_basics.specs.declared.limits.TheConstants.{MOST_NODES}
 use Rattle.heap_formula.specs.declared.judgements.Judgement.{Judgement}
 use Rattle.heap_formula.specs.declared.proof_rules.Reason.{Reason}
 use Rattle.heap_formula.specs.Words.{Each}
@@ -18,8 +19,8 @@ use Rattle.proof_search.specs.Files.{nodes_made}
 
 -- a problem within the limits of a proof file
 pub record IsWithinLimits (t : Theory) (goal : Judgement) : Type 0 where
-  pub some : 0 < t.most
-  pub most : t.most ≤ MOST_SPATIAL
+  pub some : 0 < t.most.spatial
+  pub most : AreLimits t.most
   pub definitions : Each (IsDefinitionWithin t.most t.definitions) t.definitions
   pub program : IsProgram t.lines
   pub goal_within : IsJudgementWithin t.most t.definitions (length t.lines) goal

@@ -2,6 +2,7 @@
 //! functions here do nothing; their clauses are laws.
 
 ghost use Rattle.std.specs.Prelude.{◌≡◌, ◌<◌, ◌≤◌, ℕ, List, [], ◌∷◌, Some, slice_get, length};
+ghost use Rattle.cyc_basics.specs.Limits.{AreLimits};
 ghost use Rattle.heap_formula.specs.declared.judgements.Judgement.{Judgement};
 ghost use Rattle.heap_formula.specs.declared.proof_rules.Reason.{Reason};
 ghost use Rattle.heap_formula.specs.Judgements.{antecedent};
@@ -17,13 +18,11 @@ ghost use Rattle.proof_search.specs.Graphs.{with_goal, with_goal_at, and_node, w
 ghost use Rattle.proof_search.specs.Problems.{HaveFewCases, IsSmallProblem};
 ghost use Rattle.proof_search.specs.Search.{calculus_of, OfSmallProblems, OfNextGoals};
 
-use cyc_basics::limits::MOST_SPATIAL;
-
-/// The calculus is in order where heaps have at most as many spatial atoms as a version allows and definitions at most
-/// sixteen cases. So the laws of tableaux are so of it.
+/// The calculus is in order where heaps have at most as many spatial atoms as a version allows, and definitions have no
+/// more cases than any version. So the laws of tableaux are so of it.
 pub fn small_problems_are_fair()
-    ensures { (t : Theory) → t.most ≤ MOST_SPATIAL → HaveFewCases t.definitions
-        → IsFair (calculus_of t) (λ j. length (antecedent j).spatial ≤ t.most) (λ r. Unit {0}) }
+    ensures { (t : Theory) → AreLimits t.most → HaveFewCases t.definitions
+        → IsFair (calculus_of t) (λ j. length (antecedent j).spatial ≤ t.most.spatial) (λ r. Unit {0}) }
 {}
 
 /// The trace graph of a partial derivation is that of its nodes, with one node for each; that of a small problem is in

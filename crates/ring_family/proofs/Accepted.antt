@@ -11,6 +11,8 @@ use Rattle.heap_formula.specs.declared.proof_rules.Reason.{Reason}
 use Rattle.heap_formula.specs.declared.proof_rules.Reason.TheVariants.{Step, Back}
 use Rattle.heap_formula.specs.declared.proof_rules.Rule.{Rule}
 use Rattle.heap_formula.specs.declared.proof_rules.Link.{Link}
+use Rattle.heap_syntax.specs.Versions.{limits}
+use Rattle.heap_syntax.specs.declared.version.Version.TheVariants.{One}
 use Rattle.rule_book.specs.Graphs.{Node}
 use Rattle.pred_defs.specs.Book.{DefinitionBook}
 use Rattle.trace_pairs.specs.Lasso.{AllProgress}
@@ -69,10 +71,10 @@ pub few_are_accepted : (k : ℕ) (f : ProofFile) (v : Verdict) → IsVerdict f v
 few_are_accepted k f v is correct states few = correct_is_accepted f v is correct
     (at_most_more (file_graph f) (8 * k + 1) state_limit (omega arith) states)
 
-module _ (k : ℕ) (one : 1 ≤ k) (few : k ≤ 2000) (f : ProofFile) (most : f.defs.most ≡ 16)
+module _ (k : ℕ) (one : 1 ≤ k) (few : k ≤ 2000) (f : ProofFile) (most : f.defs.most ≡ limits One)
     (list : f.defs.list ≡ ring_definitions k) (program : f.program ≡ []) (nodes : f.nodes ≡ ring_nodes k) where
   move : (P : DefinitionBook → List Command → List Node → Type 0)
-      → P (record { most = 16; list = ring_definitions k }) [] (ring_nodes k) → P f.defs f.program f.nodes
+      → P (record { most = limits One; list = ring_definitions k }) [] (ring_nodes k) → P f.defs f.program f.nodes
   move P x = moved P k f.defs f.program f.nodes (λ i. record { most = most i; list = list i }) program nodes x
 
   file_correct : IsCorrect f

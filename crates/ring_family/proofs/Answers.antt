@@ -18,6 +18,9 @@ use Rattle.heap_formula.specs.Definitions.{Definition}
 use Rattle.heap_formula.specs.Symbolic.{SymbolicHeap}
 use Rattle.heap_formula.specs.Meaning.{cases_of}
 use Rattle.heap_formula.specs.Fresh.{fresh_number}
+use Rattle.heap_syntax.specs.Versions.{limits}
+use Rattle.heap_syntax.specs.declared.version.Version.TheVariants.{One}
+use Rattle.cyc_basics.specs.declared.limits.Limits.{Limits}
 use Rattle.rule_table.specs.Answer.{needs, limited, is_short, has_numbers, each_heap}
 use Rattle.rule_table.specs.RuleUnfold.{unfold_premise}
 use Rattle.rule_table.specs.RuleBook.{rule_answer}
@@ -33,7 +36,7 @@ premise a b pairs = record { judgement = entails a b; pairs = pairs }
 abbrev pub pair : ℕ → ℕ → Bool → Pair
 pair old new progress = record { old = old; new = new; progress = progress }
 
-passes : (most : ℕ) (ps : List Premise) → each_heap (is_short most) ps ≡ true → each_heap has_numbers ps ≡ true
+passes : (most : Limits) (ps : List Premise) → each_heap (is_short most) ps ≡ true → each_heap has_numbers ps ≡ true
     → limited most ps ≡ Ok ps
 passes most ps a b =
     ap (λ t. needs t TooManyAtoms (needs (each_heap has_numbers ps) NoFreshVariable (Ok ps))) a
@@ -60,49 +63,51 @@ fresh_after p q i = simp (max-zero, zero-max) (omega arith)
 
 module _ (k i : ℕ) (ds : List Definition) (small : i ≤ 2000) where
   pub unfolds : cases_of ds i ≡ is_nil (Univ 0) ∷ cell_then (Univ 0) (Exist 0) (after k i) ∷ [] →
-      rule_answer 16 ds [] (entails (holds i (Univ i)) (holds k (Univ i))) (Unfold 0) ≡
+      rule_answer (limits One) ds [] (entails (holds i (Univ i)) (holds k (Univ i))) (Unfold 0) ≡
       Ok (premise (is_nil (Univ i)) (holds k (Univ i)) []
       ∷ premise (cell_then (Univ i) (Univ (i + 1)) (after k i)) (holds k (Univ i)) (pair 0 1 true ∷ []) ∷ [])
   unfolds cases =
       let j = entails (holds i (Univ i)) (holds k (Univ i)) in
       let before = (λ (n : ℕ). premise (is_nil (Univ i)) (holds k (Univ i)) []
       ∷ premise (cell_then (Univ i) (Univ n) (after k i)) (holds k (Univ i)) (pair 0 1 true ∷ []) ∷ []) in
-      ap (λ cs. limited 16 (map (unfold_premise j 0 (Univ i ∷ []) (fresh_number 0 j)) cs)) cases ∙
-      (ap (λ n. limited 16 (before n)) (fresh_after i k i) ∙
-      passes 16 (before (i + 1)) refl (rw (
+      ap (λ cs. limited (limits One) (map (unfold_premise j 0 (Univ i ∷ []) (fresh_number 0 j)) cs)) cases ∙
+      (ap (λ n. limited (limits One) (before n)) (fresh_after i k i) ∙
+      passes (limits One) (before (i + 1)) refl (rw (
         small_nil i (omega arith),
         small_holds k i (omega arith),
         small_cell i (after k i) small,
       )))
 
-  pub rewrites : rule_answer 16 ds [] (entails (is_nil (Univ i)) (holds k (Univ i))) (Rewrite 0 Left)
+  pub rewrites : rule_answer (limits One) ds [] (entails (is_nil (Univ i)) (holds k (Univ i))) (Rewrite 0 Left)
       ≡ Ok (premise emp (holds k Nil) [] ∷ [])
   rewrites = simp (leb-zero, eq-eqb i i refl)
 
   pub unfolds_nil : cases_of ds k ≡ is_nil (Univ 0) ∷ cell_then (Univ 0) (Exist 0) k ∷ [] →
-      rule_answer 16 ds [] (entails emp (holds k Nil)) (UnfoldRight 0 0) ≡ Ok (premise emp (is_nil Nil) [] ∷ [])
+      rule_answer (limits One) ds [] (entails emp (holds k Nil)) (UnfoldRight 0 0) ≡ Ok (premise emp
+          (is_nil Nil) [] ∷ [])
   unfolds_nil cases = rw cases
 
-  pub drops_pure : rule_answer 16 ds [] (entails emp (is_nil Nil)) (PureRight 0) ≡ Ok (premise emp emp [] ∷ [])
+  pub drops_pure : rule_answer (limits One) ds [] (entails emp (is_nil Nil)) (PureRight 0) ≡ Ok
+      (premise emp emp [] ∷ [])
   drops_pure = refl
 
-  pub done' : rule_answer 16 ds [] (entails emp emp) Done ≡ Ok []
+  pub done' : rule_answer (limits One) ds [] (entails emp emp) Done ≡ Ok []
   done' = refl
 
   pub unfolds_cell : cases_of ds k ≡ is_nil (Univ 0) ∷ cell_then (Univ 0) (Exist 0) k ∷ [] →
-      rule_answer 16 ds [] (entails (cell_then (Univ i) (Univ (i + 1)) (after k i)) (holds k (Univ i)))
+      rule_answer (limits One) ds [] (entails (cell_then (Univ i) (Univ (i + 1)) (after k i)) (holds k (Univ i)))
       (UnfoldRight 0 1) ≡
       Ok (premise (cell_then (Univ i) (Univ (i + 1)) (after k i)) (cell_then (Univ i) (Exist 0) k) (pair 1 1 false ∷ [])
       ∷ [])
   unfolds_cell cases = rw cases (rw (small_cell i (after k i) small, small_open i k small))
 
-  pub instantiates : rule_answer 16 ds [] (entails (cell_then (Univ i) (Univ (i + 1)) (after k i))
+  pub instantiates : rule_answer (limits One) ds [] (entails (cell_then (Univ i) (Univ (i + 1)) (after k i))
       (cell_then (Univ i) (Exist 0) k)) (Instantiate 0 (Univ (i + 1))) ≡
       Ok (premise (cell_then (Univ i) (Univ (i + 1)) (after k i)) (cell_then (Univ i) (Univ (i + 1)) k)
       (pair 1 1 false ∷ []) ∷ [])
   instantiates = refl
 
-  pub frames : rule_answer 16 ds [] (entails (cell_then (Univ i) (Univ (i + 1)) (after k i))
+  pub frames : rule_answer (limits One) ds [] (entails (cell_then (Univ i) (Univ (i + 1)) (after k i))
       (cell_then (Univ i) (Univ (i + 1)) k)) (Frame 0 0) ≡
       Ok (premise (holds (after k i) (Univ (i + 1))) (holds k (Univ (i + 1))) (pair 1 0 false ∷ []) ∷ [])
   frames =

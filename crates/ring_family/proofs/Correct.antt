@@ -2,6 +2,8 @@
 use Rattle.std.proofs.Common.{◌≡◌, ℕ, zero, suc, ◌+◌, ◌*◌, ◌≤◌, List, [], length, arith, sym, subst, refl}
 use Rattle.std.proofs.lemmas.List.{length-map}
 use Rattle.heap_formula.specs.declared.commands.Command.{Command}
+use Rattle.heap_syntax.specs.Versions.{limits}
+use Rattle.heap_syntax.specs.declared.version.Version.TheVariants.{One}
 use Rattle.rule_book.specs.Graphs.{Node}
 use Rattle.pred_defs.specs.Book.{DefinitionBook}
 use Rattle.trace_pairs.specs.Lasso.{AllProgress}
@@ -31,25 +33,25 @@ nodes_long k = omega (
 )
 
 module _ (k : ℕ) (one : 1 ≤ k) (few : k ≤ 2000) where
-  pub right : AreRight 16 (ring_definitions k) [] (ring_nodes k)
+  pub right : AreRight (limits One) (ring_definitions k) [] (ring_nodes k)
   right = all_right k one few
 
-  pub paths : AllProgress (graph_of 16 (ring_definitions k) [] (ring_nodes k))
+  pub paths : AllProgress (graph_of (limits One) (ring_definitions k) [] (ring_nodes k))
   paths = subst AllProgress (sym (ring_graph_is k one few))
       (all_progress (on_ring k) (place_at k) (rank k) (ring_graph k) (λ v i e h. (all_good k one v i e h).turns))
 
-  pub states_at_most : HasAtMost (graph_of 16 (ring_definitions k) [] (ring_nodes k)) (8 * k + 1)
+  pub states_at_most : HasAtMost (graph_of (limits One) (ring_definitions k) [] (ring_nodes k)) (8 * k + 1)
   states_at_most = subst (λ g. HasAtMost g (8 * k + 1)) (sym (ring_graph_is k one few)) (at_most k one)
 
-  pub states_at_least : HasMoreThan (graph_of 16 (ring_definitions k) [] (ring_nodes k)) (8 * k)
+  pub states_at_least : HasMoreThan (graph_of (limits One) (ring_definitions k) [] (ring_nodes k)) (8 * k)
   states_at_least = subst (λ g. HasMoreThan g (8 * k)) (sym (ring_graph_is k one few)) (more_than k one)
 
 -- what holds of the family's lists holds of lists that are these
 pub moved : (P : DefinitionBook → List Command → List Node → Type 0) (k : ℕ) (book : DefinitionBook)
     (program : List Command) (nodes : List Node) →
-    book ≡ record { most = 16; list = ring_definitions k } → program ≡ [] → nodes ≡ ring_nodes k
-    → P (record { most = 16; list = ring_definitions k }) [] (ring_nodes k) → P book program nodes
+    book ≡ record { most = limits One; list = ring_definitions k } → program ≡ [] → nodes ≡ ring_nodes k
+    → P (record { most = limits One; list = ring_definitions k }) [] (ring_nodes k) → P book program nodes
 moved P k book program nodes d p n x =
     subst (λ (y : DefinitionBook). P y program nodes) (sym d)
-    (subst (λ (y : List Command). P (record { most = 16; list = ring_definitions k }) y nodes) (sym p)
-    (subst (λ (y : List Node). P (record { most = 16; list = ring_definitions k }) [] y) (sym n) x))
+    (subst (λ (y : List Command). P (record { most = limits One; list = ring_definitions k }) y nodes) (sym p)
+    (subst (λ (y : List Node). P (record { most = limits One; list = ring_definitions k }) [] y) (sym n) x))

@@ -14,6 +14,7 @@ use Rattle.heap_formula.specs.declared.proof_rules.Rule.TheVariants.{Frame, Unfo
 use Rattle.heap_formula.specs.declared.proof_rules.Side.TheVariants.{Left}
 use Rattle.heap_formula.specs.Definitions.{Definition}
 use Rattle.heap_formula.specs.Symbolic.{SymbolicHeap}
+use Rattle.heap_syntax.specs.Versions.{limits}
 use Rattle.rule_book.specs.Graphs.{Node}
 use Rattle.cyc_lex.specs.declared.fault.What.TheVariants.{Variable}
 use Rattle.heap_reader.specs.Trees.{Heading}
@@ -65,7 +66,7 @@ module _ (k : ℕ) (one : 1 ≤ k) (few : k ≤ 2000) where
   hs = heads ds ds
 
   abbrev IsGoodHeap : SymbolicHeap → Type 0
-  IsGoodHeap h = (s : ℕ) → heap_flaw (term_flaw InNode) term_span 16 hs s (heap_tree ds h) ≡ None
+  IsGoodHeap h = (s : ℕ) → heap_flaw (term_flaw InNode) term_span (limits One) hs s (heap_tree ds h) ≡ None
 
   emp_good : IsGoodHeap emp
   emp_good s = refl
@@ -82,11 +83,11 @@ module _ (k : ℕ) (one : 1 ≤ k) (few : k ≤ 2000) where
   -- ---- definitions
 
   definition_good : (j : ℕ) (name : List ℕ) (p : ℕ) → j < 4096 → p ≤ k → arity_in (take j hs) name ≡ None → (t : ℕ)
-      → definition_flaw 16 hs j t (definition_tree ds (list_of name p)) ≡ None
+      → definition_flaw (limits One) hs j t (definition_tree ds (list_of name p)) ≡ None
   definition_good j name p b within new t = rw (lt-leb 4096 j b, new, known k one few p within)
 
   definitions_good : (i n : ℕ) → i + n ≡ k → EachFrom (λ j d. (t : ℕ)
-      → definition_flaw 16 hs j t (definition_tree ds d) ≡ None) i (definitions_from k i n)
+      → definition_flaw (limits One) hs j t (definition_tree ds d) ≡ None) i (definitions_from k i n)
   definitions_good i zero e = (
     definition_good i (113 ∷ []) k (omega arith) (omega arith)
         (new_q ds k 0 k i (omega arith)),
@@ -101,10 +102,10 @@ module _ (k : ℕ) (one : 1 ≤ k) (few : k ≤ 2000) where
   -- ---- nodes
 
   abbrev IsGoodNode : Node → Type 0
-  IsGoodNode x = (i : ℕ) → i < 20000 → (t : ℕ) → node_flaw 16 hs 0 i t (node_tree ds (file_node x)) ≡ None
+  IsGoodNode x = (i : ℕ) → i < 20000 → (t : ℕ) → node_flaw (limits One) hs 0 i t (node_tree ds (file_node x)) ≡ None
 
   node_good : (a b : SymbolicHeap) (reason : Reason) (us : List ℕ) → IsGoodHeap a → IsGoodHeap b
-      → ((t : ℕ) → reason_flaw 16 hs t (reason_tree ds reason) ≡ None)
+      → ((t : ℕ) → reason_flaw (limits One) hs t (reason_tree ds reason) ≡ None)
       → IsGoodNode (record { judgement = Entail a (b ∷ []); reason = reason; premises = us })
   node_good a b reason us g h r i within t = rw (lt-leb 20000 i within) (simp (g, h, r))
 
@@ -159,13 +160,14 @@ module _ (k : ℕ) (one : 1 ≤ k) (few : k ≤ 2000) where
   pub no_flaw : file_flaw (tree_of One ds [] (map file_node (ring_nodes k))) ≡ None
   no_flaw =
       let file = tree_of One ds [] (map file_node (ring_nodes k)) in
-      let nodes = from_members (λ i x. (t : ℕ) → node_flaw 16 hs 0 i t (node_tree ds (file_node x)) ≡ None) 0
+      let nodes = from_members (λ i x. (t : ℕ) → node_flaw (limits One) hs 0 i t (node_tree ds (file_node x)) ≡ None) 0
       (ring_nodes k) (λ i v x e h t. (
       let within = slice_get_within (ring_nodes k) v x h in
       each_node IsGoodNode k block_good bud_good v x h i
       (omega (arith, within, e, blocks_long (ring_block k) (ring_bud k) (λ j. refl) 0 k)) t)) in
-      let rest = none_listed_twice (node_flaw 16 hs 0) node_span (node_tree ds) file_node 0 (first_node file)
+      let rest = none_listed_twice (node_flaw (limits One) hs 0) node_span (node_tree ds) file_node 0 (first_node file)
       (ring_nodes k) nodes in
-      ap (λ (o : Found). or_later o (listed_flaw (node_flaw 16 hs 0) node_span 0 (first_node file) file.nodes))
-      (none_listed (definition_flaw 16 hs) definition_span (definition_tree ds) 0 4 ds
+      ap (λ (o : Found). or_later o (listed_flaw (node_flaw (limits One) hs 0) node_span 0
+          (first_node file) file.nodes))
+      (none_listed (definition_flaw (limits One) hs) definition_span (definition_tree ds) 0 4 ds
       (definitions_good 0 k (omega arith))) ∙ rest

@@ -8,6 +8,8 @@ use Rattle.heap_formula.specs.declared.proof_rules.Rule.TheVariants.{Frame, Unfo
 use Rattle.heap_formula.specs.declared.proof_rules.Side.TheVariants.{Left}
 use Rattle.heap_formula.specs.Definitions.{Definition}
 use Rattle.heap_formula.specs.Symbolic.{SymbolicHeap}
+use Rattle.heap_syntax.specs.Versions.{limits}
+use Rattle.heap_syntax.specs.declared.version.Version.TheVariants.{One}
 use Rattle.rule_table.specs.Answer.{Answer}
 use Rattle.rule_table.specs.RuleBook.{rule_answer}
 use Rattle.logics.specs.Graphs.{rule_edges}
@@ -60,13 +62,13 @@ module _ (k : ℕ) (one : 1 ≤ k) (few : k ≤ 2000) where
 
   -- a node by a rule with this answer
   answered : (a b : SymbolicHeap) (rule : Rule) (us : List ℕ) (answer : Answer)
-      → rule_answer 16 ds [] (entails a b) rule ≡ answer →
-      graph_node 16 ds [] nodes (by_rule a b rule us)
+      → rule_answer (limits One) ds [] (entails a b) rule ≡ answer →
+      graph_node (limits One) ds [] nodes (by_rule a b rule us)
       ≡ graph_node_of (predicate_places 0 a.spatial) (rule_edges us (traced_answer answer))
   answered a b rule us answer e = ap (λ (t : Answer). graph_node_of (predicate_places 0 a.spatial)
       (rule_edges us (traced_answer t))) e
 
-  block_graph : (m : ℕ) → m < k → map (graph_node 16 ds [] nodes) (ring_block k m) ≡ graph_block m
+  block_graph : (m : ℕ) → m < k → map (graph_node (limits One) ds [] nodes) (ring_block k m) ≡ graph_block m
   block_graph m b =
       let q = cases_last k 0 k k refl in
       let small : m ≤ 2000 = omega arith in
@@ -85,9 +87,9 @@ module _ (k : ℕ) (one : 1 ≤ k) (few : k ≤ 2000) where
       let n7 = answered cell shut (Frame 0 0) ((8 * m + 8) ∷ []) _ (frames k m ds small) in
       λ i. n0 i ∷ n1 i ∷ n2 i ∷ n3 i ∷ n4 i ∷ n5 i ∷ n6 i ∷ n7 i ∷ []
 
-  bud_graph : graph_node 16 ds [] nodes (ring_bud k) ≡ graph_bud
+  bud_graph : graph_node (limits One) ds [] nodes (ring_bud k) ≡ graph_bud
   bud_graph = rw (node_at k one few 0 0 0 _ (omega arith) refl refl) (rw (eq-eqb k k refl))
 
-  pub ring_graph_is : graph_of 16 ds [] nodes ≡ ring_graph k
-  ring_graph_is = blocks_map (graph_node 16 ds [] nodes) (ring_block k) (ring_bud k) graph_block graph_bud 0 k
+  pub ring_graph_is : graph_of (limits One) ds [] nodes ≡ ring_graph k
+  ring_graph_is = blocks_map (graph_node (limits One) ds [] nodes) (ring_block k) (ring_bud k) graph_block graph_bud 0 k
       (λ m _ b. block_graph m (omega (arith, b))) bud_graph

@@ -105,7 +105,8 @@ module _ (k : ℕ) where
 
   block_good : (m : ℕ) → m < k → EachFrom (λ r (x : Node). Each (GoodEdge (8 * m + r)) x.edges) 0 (graph_block m)
   block_good m b =
-      let p = (λ (r : ℕ) (x : Node) (h : slice_get (graph_block m) r ≡ Some x). places_of m r (8 * m + r) x b refl h) in (
+      let p = (λ (r : ℕ) (x : Node) (h : slice_get (graph_block m) r ≡ Some x). places_of m r
+      (8 * m + r) x b refl h) in (
         (
           leaving (8 * m + 0) (8 * m + 1) 0 (p 0 _ refl) (p 1 _ refl),
           (staying (8 * m + 0) (8 * m + 5) 0 1 true (p 0 _ refl) (p 5 _ refl) (inl refl) refl, tt),

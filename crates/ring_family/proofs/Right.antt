@@ -16,6 +16,9 @@ use Rattle.heap_formula.specs.declared.proof_rules.RuleFault.TheVariants.{Premis
 use Rattle.heap_formula.specs.Definitions.{Definition}
 use Rattle.heap_formula.specs.Symbolic.{SymbolicHeap}
 use Rattle.heap_formula.specs.Meaning.{cases_of}
+use Rattle.heap_syntax.specs.Versions.{limits}
+use Rattle.heap_syntax.specs.declared.version.Version.TheVariants.{One}
+use Rattle.cyc_basics.specs.declared.limits.Limits.{Limits}
 use Rattle.rule_table.specs.Answer.{Answer}
 use Rattle.rule_table.specs.Judgements.{same_judgement}
 use Rattle.rule_table.specs.RuleBook.{rule_answer}
@@ -33,7 +36,7 @@ use Rattle.rule_table.proofs.SameJudgements.{same_judgement_self}
 
 -- ---- nodes by rules
 
-module _ (most : ℕ) (ds : List Definition) (nodes : List Node) where
+module _ (most : Limits) (ds : List Definition) (nodes : List Node) where
   -- a node of this number has this judgement
   pub record Stands (u : ℕ) (j : Judgement) : Type 0 where
     pub node : Node
@@ -114,11 +117,11 @@ module _ (k : ℕ) (one : 1 ≤ k) (few : k ≤ 2000) where
       (omega arith) h
 
   inner : (m r v : ℕ) (x : Node) → m < k → v ≡ 8 * m + r → slice_get (ring_block k m) r ≡ Some x
-      → Stands 16 ds nodes v x.judgement
+      → Stands (limits One) ds nodes v x.judgement
   inner m r v x b e h = record { node = x; is_node = node_at m r v x b e h; has_judgement = refl }
 
   pub next_head : (m v : ℕ) → m < k → v ≡ 8 * m + 8
-      → Stands 16 ds nodes v (entails (holds (after k m) (Univ (m + 1))) (holds k (Univ (m + 1))))
+      → Stands (limits One) ds nodes v (entails (holds (after k m) (Univ (m + 1))) (holds k (Univ (m + 1))))
   next_head m v b e =
       elim (cases_eq (m + 1) k) [
         | inl same ↦
@@ -142,16 +145,18 @@ module _ (k : ℕ) (one : 1 ≤ k) (few : k ≤ 2000) where
   cell m = cell_then (Univ m) (Univ (m + 1)) (after k m)
 
   -- the nodes of a block
-  block_right : (m : ℕ) → m < k → EachFrom (λ r x. node_fault 16 ds [] nodes (8 * m + r) x ≡ None) 0 (ring_block k m)
+  block_right : (m : ℕ) → m < k
+      → EachFrom (λ r x. node_fault (limits One) ds [] nodes (8 * m + r) x ≡ None) 0 (ring_block k m)
   block_right m b =
       let q = cases_last k 0 k k refl in
       let small : m ≤ 2000 = omega arith in
-      let by_one = one_right 16 ds nodes in
+      let by_one = one_right (limits One) ds nodes in
       let at_place = (λ (r : ℕ) (x : Node) (h : slice_get (ring_block k m) r ≡ Some x). inner m r (8 * m + r)
       x b refl h) in
       let open' = cell_then (Univ m) (Exist 0) k in
       let shut = cell_then (Univ m) (Univ (m + 1)) k in (
-        two_right 16 ds nodes (8 * m + 0) (8 * m + 1) (8 * m + 5) (holds m (Univ m)) (holds k (Univ m)) (Unfold 0)
+        two_right (limits One) ds nodes (8 * m + 0) (8 * m + 1) (8 * m + 5) (holds m (Univ m)) (holds k (Univ m))
+            (Unfold 0)
             (premise (is_nil (Univ m)) (holds k (Univ m)) []) (premise (cell m) (holds k (Univ m)) (pair 0 1 true ∷ []))
             (omega arith) (omega arith)
             (unfolds k m ds small (cases_at k 0 k m m (omega arith) (omega arith))) (at_place 1 _ refl)
@@ -166,7 +171,7 @@ module _ (k : ℕ) (one : 1 ≤ k) (few : k ≤ 2000) where
               by_one (8 * m + 3) (8 * m + 4) emp (is_nil Nil) (PureRight 0) (premise emp emp []) (omega arith)
                   (drops_pure k m ds small) (at_place 4 _ refl),
               (
-                rule_right 16 ds nodes (8 * m + 4) emp emp Done [] [] (done' k m ds small) refl refl,
+                rule_right (limits One) ds nodes (8 * m + 4) emp emp Done [] [] (done' k m ds small) refl refl,
                 (
                   by_one (8 * m + 5) (8 * m + 6) (cell m) (holds k (Univ m)) (UnfoldRight 0 1)
                       (premise (cell m) open' (pair 1 1 false ∷ [])) (omega arith) (unfolds_cell k m ds small q)
@@ -189,16 +194,17 @@ module _ (k : ℕ) (one : 1 ≤ k) (few : k ≤ 2000) where
         ),
       )
 
-  bud_right : (v : ℕ) → node_fault 16 ds [] nodes v (ring_bud k) ≡ None
+  bud_right : (v : ℕ) → node_fault (limits One) ds [] nodes v (ring_bud k) ≡ None
   bud_right v = rw (node_at 0 0 0 _ (omega arith) refl refl) (rw (eq-eqb k k refl))
 
-  pub all_right : AreRight 16 ds [] nodes
+  pub all_right : AreRight (limits One) ds [] nodes
   all_right v node h =
       elim (blocks_cases (ring_block k) (ring_bud k) eight 0 k v node h) [
         | inl b ↦
             (let place : 8 * b.m + b.r ≡ v = omega (arith, b.place) in
-            subst (λ w. node_fault 16 ds [] nodes w node ≡ None) place
-            (each_from (λ r x. node_fault 16 ds [] nodes (8 * b.m + r) x ≡ None) 0 b.r b.r (ring_block k b.m) node
+            subst (λ w. node_fault (limits One) ds [] nodes w node ≡ None) place
+            (each_from (λ r x. node_fault (limits One) ds [] nodes (8 * b.m + r) x ≡ None) 0 b.r b.r
+            (ring_block k b.m) node
             (omega arith) b.is_x (block_right b.m (omega (arith, b.last)))))
-        | inr l ↦ subst (λ (x : Node). node_fault 16 ds [] nodes v x ≡ None) l.1 (bud_right v)
+        | inr l ↦ subst (λ (x : Node). node_fault (limits One) ds [] nodes v x ≡ None) l.1 (bud_right v)
       ]

@@ -2,6 +2,7 @@
 ghost use Rattle.std.specs.Prelude.{◌≡◌, ◌<◌, ◌≤◌, ◌+◌, ◌*◌, [], length, IfOk};
 ghost use Rattle.buchi_inclusion.specs.Answers.{HasAtMost, HasMoreThan};
 ghost use Rattle.heap_syntax.specs.declared.version.Version.TheVariants.{One};
+ghost use Rattle.heap_syntax.specs.Versions.{limits};
 ghost use Rattle.proof_file.specs.Written.{text_of_file};
 ghost use Rattle.proof_check.specs.Verdicts.{file_graph, IsCorrect};
 ghost use Rattle.ring_family.specs.Ring.{ring_definitions, ring_nodes, file_nodes};
@@ -21,7 +22,7 @@ pub fn ring_file(alloc: Global, k: u32) -> Result<ProofFile, OutOfMemory>
     requires from_one { 1 ≤ k }
     requires most { k ≤ 2000 }
     ensures version { IfOk result (λ f. f.version ≡ One) }
-    ensures definitions { IfOk result (λ f. f.defs ≡ record { most = 16; list = ring_definitions k }) }
+    ensures definitions { IfOk result (λ f. f.defs ≡ record { most = limits One; list = ring_definitions k }) }
     ensures program { IfOk result (λ f. f.program ≡ []) }
     ensures nodes { IfOk result (λ f. f.nodes ≡ ring_nodes k) }
     ensures file_form { IfOk result (λ f. f.nodes ≡ file_nodes (ring_nodes k)) }
@@ -33,7 +34,7 @@ pub fn ring_file(alloc: Global, k: u32) -> Result<ProofFile, OutOfMemory>
     let count = k as u16;
     let version = Version::One;
     let definitions = definitions(alloc, count)?;
-    let defs = Defs::from_vec(alloc, version.most_spatial(), definitions);
+    let defs = Defs::from_vec(alloc, version.limits(), definitions);
     let nodes = FileNodes::from_vec(nodes(alloc, count)?);
     let program = empty_program(alloc)?;
     Ok(ProofFile {

@@ -1,5 +1,6 @@
 -- Examples of files with what is wrong at each of their nodes.
 use Rattle.std.proofs.Common.{◌≡◌, ℕ, suc, List, [], ◌∷◌, Option, Some, None, refl}
+use Rattle.cyc_basics.specs.declared.limits.Limits.{Limits}
 use Rattle.heap_formula.specs.declared.terms.Term.TheVariants.{Nil, Univ, Exist}
 use Rattle.heap_formula.specs.declared.atoms.Pure.{Pure}
 use Rattle.heap_formula.specs.declared.atoms.Pure.TheVariants.{Eq, Neq}
@@ -31,9 +32,13 @@ heap ps xs = record { pure = ps; spatial = xs }
 abbrev pub node : Judgement → Reason → List ℕ → Node
 node j r us = record { judgement = j; reason = r; premises = us }
 
+-- what files of version 1 may have
+abbrev pub first_limits : Limits
+first_limits = record { arguments = 8; cases = 16; locals = 16; pure = 64; spatial = 16; cells = 16 }
+
 abbrev pub faults_from : List Definition → List Command → List Node → ℕ → List Node → List (Option RuleFault)
 faults_from ds lines all v [] = []
-faults_from ds lines all v (n ∷ ns) = node_fault 16 ds lines all v n ∷ faults_from ds lines all (suc v) ns
+faults_from ds lines all v (n ∷ ns) = node_fault first_limits ds lines all v n ∷ faults_from ds lines all (suc v) ns
 
 -- a predicate that goes round with nothing unfolded: no node is faulty
 abbrev weakened_nodes : List Node

@@ -15,7 +15,7 @@ use Rattle.std.proofs.Common.{Bool, true, false}
 use Rattle.std.specs.Prelude.{slice_get}
 use Rattle.trace_pairs.specs.Graph.{Edge, Pair}
 use Rattle.rule_book.specs.Graphs.{Node, edges_of}
-use Rattle.rule_book.proofs.ExampleFaults.{faults_from, heap, node}
+use Rattle.rule_book.proofs.ExampleFaults.{faults_from, first_limits, heap, node}
 
 -- two list segments, one after the other, are one segment
 abbrev segments_defs : List Definition
@@ -168,7 +168,7 @@ pair old new progress = (old, new, progress)
 
 abbrev edges_at : List Definition → List Command → List Node → Option Node → List Edge
 edges_at ds lines nodes None = []
-edges_at ds lines nodes (Some n) = edges_of 16 ds lines nodes n
+edges_at ds lines nodes (Some n) = edges_of first_limits ds lines nodes n
 
 abbrev edge : ℕ → List Pair → Edge
 edge target pairs = record { target = target; pairs = pairs }

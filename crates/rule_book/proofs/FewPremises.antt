@@ -1,5 +1,6 @@
 -- A reason leaves few premises where each predicate has few cases.
 use Rattle.std.proofs.Common.{ℕ, List, Option, Some, None, arith}
+use Rattle.cyc_basics.specs.declared.limits.Limits.{Limits}
 use Rattle.heap_formula.specs.declared.commands.Command.{Command}
 use Rattle.heap_formula.specs.declared.judgements.Judgement.{Judgement}
 use Rattle.heap_formula.specs.declared.proof_rules.Reason.{Reason}
@@ -12,7 +13,7 @@ use Rattle.rule_table.specs.LinkTable.{link_fault, link_premise}
 use Rattle.rule_book.specs.Answers.{unless_fault, reason_answer}
 use Rattle.rule_table.proofs.FewPremises.{IsFew, rule_few}
 
-pub reason_few : (most : ℕ) (ds : List Definition) (lines : List Command) → Each HasFewCases ds
+pub reason_few : (most : Limits) (ds : List Definition) (lines : List Command) → Each HasFewCases ds
     → (j : Judgement) (reason : Reason) (companion : Option Judgement)
     → IsFew (reason_answer most ds lines j reason companion)
 reason_few most ds lines h j (Step rule) companion = rule_few most ds lines h j rule

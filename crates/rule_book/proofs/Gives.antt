@@ -1,6 +1,7 @@
 -- What holds of each fault, and of an answer where what follows each test gives it.
 use Rattle.std.proofs.Common.{◌≡◌, ℕ, Bool, true, false, List, [], ◌∷◌, Option, Some, None, refl, ap, ◌∙◌}
 use Rattle.std.specs.Prelude.{Ok, Err}
+use Rattle.cyc_basics.specs.declared.limits.Limits.{Limits}
 use Rattle.heap_formula.specs.declared.judgements.Judgement.{Judgement}
 use Rattle.heap_formula.specs.declared.judgements.Judgement.TheVariants.{Entail, Term as Runs}
 use Rattle.heap_formula.specs.declared.judgements.Premise.{Premise}
@@ -21,7 +22,7 @@ module _ (S : Answer → Type 0) (bad : (f : RuleFault) → S (Err f)) where
   finds_gives None f rest g = bad f
   finds_gives (Some x) f rest g = g x refl
 
-  pub limited_gives : (most : ℕ) (ps : List Premise)
+  pub limited_gives : (most : Limits) (ps : List Premise)
       → (each_heap (is_short most) ps ≡ true → each_heap has_numbers ps ≡ true → S (Ok ps)) → S (limited most ps)
   limited_gives most ps g =
       needs_gives (each_heap (is_short most) ps) TooManyAtoms _

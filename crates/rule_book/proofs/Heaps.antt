@@ -3,6 +3,7 @@ use Rattle.std.proofs.Common.{◌≡◌, ℕ, zero, suc, ◌≤◌, true, List, 
 use Rattle.std.proofs.Common.{subst, arith, leb-true, le-leb}
 use Rattle.std.proofs.lemmas.List.{length-map}
 use Rattle.std.specs.Prelude.{nat_le, slice_get}
+use Rattle.cyc_basics.specs.declared.limits.Limits.{Limits}
 use Rattle.heap_formula.specs.declared.terms.Term.{Term}
 use Rattle.heap_formula.specs.declared.atoms.Pure.{Pure}
 use Rattle.heap_formula.specs.declared.atoms.Pure.TheVariants.{Eq, Neq}
@@ -108,21 +109,23 @@ shapes_after ds f = each_made (in_spatial f) (IsShaped ds) (IsShaped ds) (shape_
 
 -- ---- heaps
 
-pub record IsSmall (most : ℕ) (ds : List Definition) (a : SymbolicHeap) : Type 0 where
-  pub pures : length a.pure ≤ 64
-  pub spatials : length a.spatial ≤ most
+pub record IsSmall (most : Limits) (ds : List Definition) (a : SymbolicHeap) : Type 0 where
+  pub pures : length a.pure ≤ most.pure
+  pub spatials : length a.spatial ≤ most.spatial
   pub low : InHeap IsLow a
   pub shaped : Each (IsShaped ds) a.spatial
 
-pub short_pures : (most : ℕ) (a : SymbolicHeap) → is_short most a ≡ true → length a.pure ≤ 64
+pub short_pures : (most : Limits) (a : SymbolicHeap) → is_short most a ≡ true → length a.pure ≤ most.pure
 short_pures most a e =
-    leb-true (length a.pure) 64 (and_parts (nat_le (length a.pure) 64) (nat_le (length a.spatial) most) e).0
+    leb-true (length a.pure) most.pure
+    (and_parts (nat_le (length a.pure) most.pure) (nat_le (length a.spatial) most.spatial) e).0
 
-pub short_spatials : (most : ℕ) (a : SymbolicHeap) → is_short most a ≡ true → length a.spatial ≤ most
+pub short_spatials : (most : Limits) (a : SymbolicHeap) → is_short most a ≡ true → length a.spatial ≤ most.spatial
 short_spatials most a e =
-    leb-true (length a.spatial) most (and_parts (nat_le (length a.pure) 64) (nat_le (length a.spatial) most) e).1
+    leb-true (length a.spatial) most.spatial
+    (and_parts (nat_le (length a.pure) most.pure) (nat_le (length a.spatial) most.spatial) e).1
 
-pub small : (most : ℕ) (ds : List Definition) (a : SymbolicHeap) → IsHeapWithin most ds a → IsSmall most ds a
+pub small : (most : Limits) (ds : List Definition) (a : SymbolicHeap) → IsHeapWithin most ds a → IsSmall most ds a
 small most ds a h =
     record {
       pures = short_pures most a h.short;
@@ -131,24 +134,23 @@ small most ds a h =
       shaped = are_shaped ds a.spatial h.known h.fields;
     }
 
-pub within : (most : ℕ) (ds : List Definition) (a : SymbolicHeap) → IsSmall most ds a → IsHeapWithin most ds a
+pub within : (most : Limits) (ds : List Definition) (a : SymbolicHeap) → IsSmall most ds a → IsHeapWithin most ds a
 within most ds a h =
     record {
-      short = both_true (nat_le (length a.pure) 64) (nat_le (length a.spatial) most) (le-leb (length a.pure) 64 h.pures)
-          (le-leb (length a.spatial) most h.spatials);
+      short = both_true (nat_le (length a.pure) most.pure) (nat_le (length a.spatial) most.spatial)
+          (le-leb (length a.pure) most.pure h.pures) (le-leb (length a.spatial) most.spatial h.spatials);
       numbers = heap_low a h.low;
       known = are_known ds a.spatial h.shaped;
       fields = each_imply (IsShaped ds) HasFields (λ x s. s.1) a.spatial h.shaped;
     }
 
 -- what a test of its numbers and its length leaves to be shown
-pub within_tested : (most : ℕ) (ds : List Definition) (tested : ℕ) (a : SymbolicHeap) → is_short tested a ≡ true
-    → has_numbers a ≡ true → (length a.spatial ≤ tested → length a.spatial ≤ most) → Each (IsShaped ds) a.spatial
-    → IsHeapWithin most ds a
-within_tested most ds tested a s n few shaped =
+pub within_tested : (most : Limits) (ds : List Definition) (a : SymbolicHeap) → is_short most a ≡ true
+    → has_numbers a ≡ true → Each (IsShaped ds) a.spatial → IsHeapWithin most ds a
+within_tested most ds a s n shaped =
     within most ds a (record {
-      pures = short_pures tested a s;
-      spatials = few (short_spatials tested a s);
+      pures = short_pures most a s;
+      spatials = short_spatials most a s;
       low = low_heap a n;
       shaped = shaped;
     })
@@ -171,7 +173,7 @@ module _ (f : Term → Term) (g : (t : Term) → IsLow t → IsLow (f t)) where
       → Each (InSpatial IsLow) (map (in_spatial f) xs)
   low_spatials_after = each_made (in_spatial f) (InSpatial IsLow) (InSpatial IsLow) low_spatial_after
 
-  pub within_after : (most : ℕ) (ds : List Definition) (a : SymbolicHeap) → IsHeapWithin most ds a
+  pub within_after : (most : Limits) (ds : List Definition) (a : SymbolicHeap) → IsHeapWithin most ds a
       → IsHeapWithin most ds (in_heap f a)
   within_after most ds a h =
       let s = small most ds a h in

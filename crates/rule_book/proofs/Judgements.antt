@@ -1,6 +1,7 @@
 -- Premises within the limits, but for existentials.
 use Rattle.std.proofs.Common.{◌≡◌, ℕ, ◌≤◌, true, List, [], ◌∷◌, length, arith}
 use Rattle.std.proofs.lemmas.List.{length-map}
+use Rattle.cyc_basics.specs.declared.limits.Limits.{Limits}
 use Rattle.heap_formula.specs.declared.judgements.Judgement.{Judgement}
 use Rattle.heap_formula.specs.declared.judgements.Judgement.TheVariants.{Entail, Term as Runs}
 use Rattle.heap_formula.specs.declared.judgements.Premise.{Premise}
@@ -44,42 +45,41 @@ form_map n s (Entail a bs) f =
     let few = f.1 in (omega arith, omega arith)
 form_map n s (Runs i a) f = f
 
-module _ (most : ℕ) (ds : List Definition) (n : ℕ) where
+module _ (most : Limits) (ds : List Definition) (n : ℕ) where
   -- the heaps and the form are within the limits
   abbrev pub IsNearly : Premise → Type 0
   IsNearly p = Each (IsHeapWithin most ds) (heaps_of p.judgement) × IsFormWithin n p.judgement
 
-  -- but for the counts of pure atoms and the numbers, and for that of spatial atoms if it is at tested `tested`
-  abbrev pub IsReadyHeap : ℕ → SymbolicHeap → Type 0
-  IsReadyHeap tested a = (length a.spatial ≤ tested → length a.spatial ≤ most) × Each (IsShaped ds) a.spatial
+  -- but for the counts of atoms and the numbers
+  abbrev pub IsReadyHeap : SymbolicHeap → Type 0
+  IsReadyHeap a = Each (IsShaped ds) a.spatial
 
-  abbrev pub IsReady : ℕ → Premise → Type 0
-  IsReady tested p = Each (IsReadyHeap tested) (heaps_of p.judgement) × IsFormWithin n p.judgement
+  abbrev pub IsReady : Premise → Type 0
+  IsReady p = Each IsReadyHeap (heaps_of p.judgement) × IsFormWithin n p.judgement
 
-  pub ready : (tested : ℕ) (a : SymbolicHeap) → IsHeapWithin most ds a → IsReadyHeap tested a
-  ready tested a h = let s = small most ds a h in ((λ _. s.spatials), s.shaped)
+  pub ready : (a : SymbolicHeap) → IsHeapWithin most ds a → IsReadyHeap a
+  ready a h = (small most ds a h).shaped
 
-  pub all_ready : (tested : ℕ) (xs : List SymbolicHeap) → Each (IsHeapWithin most ds) xs → Each (IsReadyHeap tested) xs
-  all_ready tested = each_imply (IsHeapWithin most ds) (IsReadyHeap tested) (ready tested)
+  pub all_ready : (xs : List SymbolicHeap) → Each (IsHeapWithin most ds) xs → Each IsReadyHeap xs
+  all_ready = each_imply (IsHeapWithin most ds) IsReadyHeap ready
 
-  heaps_tested : (tested : ℕ) (xs : List SymbolicHeap) → list_all (is_short tested) xs ≡ true
-      → list_all has_numbers xs ≡ true → Each (IsReadyHeap tested) xs → Each (IsHeapWithin most ds) xs
-  heaps_tested tested [] s l e = tt
-  heaps_tested tested (a ∷ xs) s l e =
-      let s' = and_parts (is_short tested a) (list_all (is_short tested) xs) s in
+  heaps_tested : (xs : List SymbolicHeap) → list_all (is_short most) xs ≡ true → list_all has_numbers xs ≡ true
+      → Each IsReadyHeap xs → Each (IsHeapWithin most ds) xs
+  heaps_tested [] s l e = tt
+  heaps_tested (a ∷ xs) s l e =
+      let s' = and_parts (is_short most a) (list_all (is_short most) xs) s in
       let l' = and_parts (has_numbers a) (list_all has_numbers xs) l in
-      (within_tested most ds tested a s'.0 l'.0 e.0.0 e.0.1, heaps_tested tested xs s'.1 l'.1 e.1)
+      (within_tested most ds a s'.0 l'.0 e.0, heaps_tested xs s'.1 l'.1 e.1)
 
-  premises_tested : (tested : ℕ) (ps : List Premise) → each_heap (is_short tested) ps ≡ true
-      → each_heap has_numbers ps ≡ true → Each (IsReady tested) ps → Each IsNearly ps
-  premises_tested tested [] s l e = tt
-  premises_tested tested (p ∷ ps) s l e =
-      let s' = and_parts (list_all (is_short tested) (heaps_of p.judgement)) (each_heap (is_short tested) ps) s in
+  premises_tested : (ps : List Premise) → each_heap (is_short most) ps ≡ true → each_heap has_numbers ps ≡ true
+      → Each IsReady ps → Each IsNearly ps
+  premises_tested [] s l e = tt
+  premises_tested (p ∷ ps) s l e =
+      let s' = and_parts (list_all (is_short most) (heaps_of p.judgement)) (each_heap (is_short most) ps) s in
       let l' = and_parts (list_all has_numbers (heaps_of p.judgement)) (each_heap has_numbers ps) l in
-      ((heaps_tested tested (heaps_of p.judgement) s'.0 l'.0 e.0.0, e.0.1), premises_tested tested ps s'.1 l'.1 e.1)
+      ((heaps_tested (heaps_of p.judgement) s'.0 l'.0 e.0.0, e.0.1), premises_tested ps s'.1 l'.1 e.1)
 
   -- the last tests of a rule that adds atoms
-  pub limited_nearly : (tested : ℕ) (ps : List Premise) → Each (IsReady tested) ps
-      → OnPremises IsNearly (limited tested ps)
-  limited_nearly tested ps e =
-      limited_gives (OnPremises IsNearly) (λ f. tt) tested ps (λ s l. premises_tested tested ps s l e)
+  pub limited_nearly : (ps : List Premise) → Each IsReady ps → OnPremises IsNearly (limited most ps)
+  limited_nearly ps e =
+      limited_gives (OnPremises IsNearly) (λ f. tt) most ps (λ s l. premises_tested ps s l e)

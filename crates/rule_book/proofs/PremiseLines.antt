@@ -2,6 +2,7 @@
 use Rattle.std.proofs.Common.{ℕ, Bool, true, false, cond, List, [], ◌∷◌, map, length, subst}
 use Rattle.std.specs.Prelude.{max, nat_eq, if◌then◌else◌, slice_get, Result, Ok, Err, Vec, IfOk}
 use Rattle.std.specs.declared.alloc.Global.{Global}
+use Rattle.cyc_basics.specs.declared.limits.Limits.{Limits}
 use Rattle.heap_formula.specs.declared.terms.Term.{Term}
 use Rattle.heap_formula.specs.declared.terms.Term.TheVariants.{Nil, Univ, Exist}
 use Rattle.heap_formula.specs.declared.atoms.Pure.{Pure}
@@ -81,14 +82,14 @@ module _ (n : ℕ) where
   case_lines j k ts m [] h = tt
   case_lines j k ts m (c ∷ cs) h = (kept j _ h, case_lines j k ts m cs h)
 
-  unfold_lines : (most : ℕ) (ds : List Definition) (p : ℕ) (j : Judgement) (k : ℕ) (x : Spatial) → IsWithinLines n j
+  unfold_lines : (most : Limits) (ds : List Definition) (p : ℕ) (j : Judgement) (k : ℕ) (x : Spatial) → IsWithinLines n j
       → OnPremises P (calls x (λ q ts. limited most (map (unfold_premise j k ts (fresh_number p j)) (cases_of ds q))))
   unfold_lines most ds p j k (Cell t ts) h = tt
   unfold_lines most ds p j k (Pred q ts) h =
       limited_on P most (map (unfold_premise j k ts (fresh_number p j)) (cases_of ds q))
       (case_lines j k ts (fresh_number p j) (cases_of ds q) h)
 
-  right_lines : (most : ℕ) (ds : List Definition) (a b : SymbolicHeap) (k c : ℕ) (x : Spatial)
+  right_lines : (most : Limits) (ds : List Definition) (a b : SymbolicHeap) (k c : ℕ) (x : Spatial)
       → OnPremises P (calls x (λ q ts. finds (slice_get (cases_of ds q) c) NoSuchCase
       (λ case. limited most (one (with_right a (unfolded b k (in_heap (right_term ts (heap_exists b)) case) ∷ []))))))
   right_lines most ds a b k c (Cell t ts) = tt
@@ -116,7 +117,7 @@ module _ (n : ℕ) where
 abbrev Q : ℕ → Judgement → Premise → Type 0
 Q n j = IsPremiseWithin n
 
-rule_lines : (most : ℕ) (ds : List Definition) (lines : List Command) (j : Judgement) (rule : Rule) → IsProgram lines
+rule_lines : (most : Limits) (ds : List Definition) (lines : List Command) (j : Judgement) (rule : Rule) → IsProgram lines
     → IsWithinLines (length lines) j → OnPremises (IsPremiseWithin (length lines)) (rule_answer most ds lines j rule)
 rule_lines most ds lines j Absurd p h = needs_on (P (length lines)) (is_absurd (antecedent j)) NotAbsurd (Ok [])
     (λ _. tt)
@@ -124,14 +125,14 @@ rule_lines most ds lines j (Rewrite k side) p h =
     finds_on (P (length lines)) (slice_get (antecedent j).pure k) NoSuchAtom _
     (λ x at. atom_lines (length lines) (variables_of lines j) j k side x h)
 rule_lines most ds lines j (Split t u) p h =
-    limited_on (P (length lines)) 32 (two (with_pure j (Eq t u)) (with_pure j (Neq t u)))
+    limited_on (P (length lines)) most (two (with_pure j (Eq t u)) (with_pure j (Neq t u)))
     (kept (length lines) j _ h, (kept (length lines) j _ h, tt))
 rule_lines most ds lines j (Distinct i k) p h =
     finds_on (P (length lines)) (slice_get (antecedent j).spatial i) NoSuchAtom _ (λ x at_i.
     finds_on (P (length lines)) (slice_get (antecedent j).spatial k) NoSuchAtom _ (λ y at_k.
     finds_on (P (length lines)) (address_of x) NoCell _ (λ t is_t.
     finds_on (P (length lines)) (address_of y) NoCell _ (λ u is_u.
-    limited_on (P (length lines)) 32 (one (with_pure j (Neq t (if nat_eq i k then Nil else u))))
+    limited_on (P (length lines)) most (one (with_pure j (Neq t (if nat_eq i k then Nil else u))))
     (kept (length lines) j _ h, tt)))))
 rule_lines most ds lines j (Weaken k) p h =
     finds_on (P (length lines)) (slice_get (antecedent j).pure k) NoSuchAtom _ (λ x at. (kept (length lines) j _ h, tt))
@@ -166,7 +167,7 @@ rule_lines most ds lines j (UnfoldRight k c) p h =
 rule_lines most ds lines j Exec p h = at_lines (length lines) (exec_answer most lines j) (answer_lines most lines j p)
 rule_lines most ds lines j (Drop k) p h = drop_lines (length lines) j k h
 
-pub answer_within : (most : ℕ) (ds : List Definition) (lines : List Command) (j : Judgement) (rule : Rule)
+pub answer_within : (most : Limits) (ds : List Definition) (lines : List Command) (j : Judgement) (rule : Rule)
     (r : Result (Vec Premise Global) RuleError) → IsProgram lines → IsAnswer r (rule_answer most ds lines j rule)
     → IfOk r (λ v. IsWithinLines (length lines) j → Each (IsPremiseWithin (length lines)) v.items)
 answer_within most ds lines j rule (Ok v) p is = λ h.

@@ -1,6 +1,7 @@
 -- The premises of a rule are within the limits.
 use Rattle.std.proofs.Common.{◌≡◌, ℕ, List, [], ◌∷◌, length, subst}
 use Rattle.std.specs.Prelude.{Ok}
+use Rattle.cyc_basics.specs.declared.limits.Limits.{Limits}
 use Rattle.heap_formula.specs.declared.commands.Command.{Command}
 use Rattle.heap_formula.specs.declared.judgements.Judgement.{Judgement}
 use Rattle.heap_formula.specs.declared.judgements.Premise.{Premise}
@@ -19,11 +20,11 @@ use Rattle.rule_book.specs.Limits.{IsJudgementWithin, IsPremiseWithin, IsDefinit
 use Rattle.rule_book.proofs.Judgements.{IsNearly}
 use Rattle.rule_book.proofs.Within.{rule_nearly}
 
-universal_terms : (most : ℕ) (ds : List Definition) (rule : Rule) → IsRuleWithin most ds rule → HasUniversalTerms rule
+universal_terms : (most : Limits) (ds : List Definition) (rule : Rule) → IsRuleWithin most ds rule → HasUniversalTerms rule
 universal_terms most ds (Split t u) r = (r.0.0, r.1.0)
 universal_terms most ds rule r = tt
 
-all_within : (most : ℕ) (ds : List Definition) (n : ℕ) (ps : List Premise) → Each (IsNearly most ds n) ps
+all_within : (most : Limits) (ds : List Definition) (n : ℕ) (ps : List Premise) → Each (IsNearly most ds n) ps
     → Each IsUniversalPremise ps → Each (IsPremiseWithin most ds n) ps
 all_within most ds n [] h u = tt
 all_within most ds n (p ∷ ps) h u = (
@@ -31,7 +32,7 @@ all_within most ds n (p ∷ ps) h u = (
   all_within most ds n ps h.1 u.1,
 )
 
-pub premises_within : (most : ℕ) (ds : List Definition) (lines : List Command) (j : Judgement) (rule : Rule)
+pub premises_within : (most : Limits) (ds : List Definition) (lines : List Command) (j : Judgement) (rule : Rule)
     (ps : List Premise) → Each (IsDefinitionWithin most ds) ds → IsProgram lines
     → IsJudgementWithin most ds (length lines) j → IsRuleWithin most ds rule → rule_answer most ds lines j rule ≡ Ok ps
     → Each (IsPremiseWithin most ds (length lines)) ps

@@ -3,6 +3,9 @@ use Rattle.std.proofs.Common.{◌≡◌, ℕ, suc, ◌<◌, ◌≤◌, Bool, tru
 use Rattle.std.proofs.Common.{arith, ltb-true}
 use Rattle.std.proofs.lemmas.Option.{slice_get_within}
 use Rattle.std.specs.Prelude.{Ok, Err, nat_eq, nat_le, nat_lt, slice_get}
+use Rattle.cyc_basics.specs.declared.limits.TheConstants.{MOST_PURE}
+use Rattle.cyc_basics.specs.Limits.{AreLimits}
+use Rattle.cyc_basics.specs.declared.limits.Limits.{Limits}
 use Rattle.heap_formula.specs.declared.atoms.Pure.{Pure}
 use Rattle.heap_formula.specs.declared.atoms.Spatial.{Spatial}
 use Rattle.heap_formula.specs.declared.atoms.Spatial.TheVariants.{Cell, Pred}
@@ -42,10 +45,10 @@ use Rattle.rule_table.proofs.FewPremises.{few_cases}
 use Rattle.std.proofs.lemmas.Bool.{and_parts}
 
 -- a place in a short list
-short_at : {X : Type 0} (xs : List X) (k : ℕ) (x : X) → slice_get xs k ≡ Some x → length xs ≤ 64 → IsShortNumber k
+short_at : {X : Type 0} (xs : List X) (k : ℕ) (x : X) → slice_get xs k ≡ Some x → length xs ≤ MOST_PURE → IsShortNumber k
 short_at xs k x at few = let w = slice_get_within xs k x at in omega arith
 
-places_short : (k n : ℕ) (places : List ℕ) → ascend_from k n places ≡ true → n ≤ 64 → Each IsShortNumber places
+places_short : (k n : ℕ) (places : List ℕ) → ascend_from k n places ≡ true → n ≤ MOST_PURE → Each IsShortNumber places
 places_short k n [] e few = tt
 places_short k n (i ∷ is) e few =
     let f = and_parts (nat_le k i && nat_lt i n) (ascend_from (suc i) n is) e in
@@ -61,17 +64,17 @@ Gives X ps answer = answer ≡ Ok ps → X
 no_answer : (X : Type 0) (ps : List Premise) (f : RuleFault) → Gives X ps (Err f)
 no_answer X ps f e = cc
 
-right_short : (most : ℕ) (ds : List Definition) (ps : List Premise) (a b : SymbolicHeap) (k c : ℕ) (x : Spatial)
+right_short : (most : Limits) (bounded : AreLimits most) (ds : List Definition) (ps : List Premise) (a b : SymbolicHeap) (k c : ℕ) (x : Spatial)
     → Each (IsDefinitionWithin most ds) ds → Gives (IsShortNumber c) ps
     (calls x (λ q ts. finds (slice_get (cases_of ds q) c) NoSuchCase
     (λ case. limited most (one (with_right a (unfolded b k (in_heap (right_term ts (heap_exists b)) case) ∷ []))))))
-right_short most ds ps a b k c (Cell t ts) d = no_answer (IsShortNumber c) ps NoSuchAtom
-right_short most ds ps a b k c (Pred q ts) d =
+right_short most bounded ds ps a b k c (Cell t ts) d = no_answer (IsShortNumber c) ps NoSuchAtom
+right_short most bounded ds ps a b k c (Pred q ts) d =
     finds_gives (Gives (IsShortNumber c) ps) (no_answer (IsShortNumber c) ps) (slice_get (cases_of ds q) c) NoSuchCase _
-    (λ case at e. let few = few_cases ds (are_few most ds ds d) q in
+    (λ case at e. let few = few_cases ds (are_few most ds bounded ds d) q in
     short_at (cases_of ds q) c case at (omega arith))
 
-module _ (most : ℕ) (bounded : most ≤ 32) (ds : List Definition) (lines : List Command) (j : Judgement)
+module _ (most : Limits) (bounded : AreLimits most) (ds : List Definition) (lines : List Command) (j : Judgement)
     (ps : List Premise) (d : Each (IsDefinitionWithin most ds) ds) (h : IsJudgementWithin most ds (length lines) j)
   where
     s : IsSmall most ds (antecedent j)
@@ -80,13 +83,13 @@ module _ (most : ℕ) (bounded : most ≤ 32) (ds : List Definition) (lines : Li
     same : (i : Judgement) → j ≡ i → IsJudgementWithin most ds (length lines) i
     same i e = subst (λ (i : Judgement). IsJudgementWithin most ds (length lines) i) e h
 
-    few_spatials : length (antecedent j).spatial ≤ 64
-    few_spatials = let m = s.spatials in omega arith
+    few_spatials : length (antecedent j).spatial ≤ MOST_PURE
+    few_spatials = let m = s.spatials in omega (arith, bounded.spatial)
 
     pub rule_short : (rule : Rule) → rule_answer most ds lines j rule ≡ Ok ps → HasShortRule rule
     rule_short (Rewrite k side) =
         let X = IsShortNumber k in finds_gives (Gives X ps) (no_answer X ps) (slice_get (antecedent j).pure k)
-        NoSuchAtom _ (λ x at e. short_at (antecedent j).pure k x at s.pures)
+        NoSuchAtom _ (λ x at e. short_at (antecedent j).pure k x at (let few = s.pures in omega (arith, bounded.pure)))
     rule_short (Distinct i k) =
         let X = IsShortNumber i × IsShortNumber k in
         finds_gives (Gives X ps) (no_answer X ps) (slice_get (antecedent j).spatial i) NoSuchAtom _ (λ x at_i.
@@ -94,7 +97,7 @@ module _ (most : ℕ) (bounded : most ≤ 32) (ds : List Definition) (lines : Li
         (short_at (antecedent j).spatial i x at_i few_spatials, short_at (antecedent j).spatial k y at_k few_spatials)))
     rule_short (Weaken k) =
         let X = IsShortNumber k in finds_gives (Gives X ps) (no_answer X ps) (slice_get (antecedent j).pure k)
-        NoSuchAtom _ (λ x at e. short_at (antecedent j).pure k x at s.pures)
+        NoSuchAtom _ (λ x at e. short_at (antecedent j).pure k x at (let few = s.pures in omega (arith, bounded.pure)))
     rule_short (Unfold k) =
         let X = IsShortNumber k in finds_gives (Gives X ps) (no_answer X ps) (slice_get (antecedent j).spatial k)
         NoSuchAtom _ (λ x at e. short_at (antecedent j).spatial k x at few_spatials)
@@ -111,7 +114,7 @@ module _ (most : ℕ) (bounded : most ≤ 32) (ds : List Definition) (lines : Li
         let X = IsShortNumber k in
         single_gives (Gives X ps) (no_answer X ps) j _ (λ a b is.
         finds_gives (Gives X ps) (no_answer X ps) (slice_get b.pure k) NoSuchAtom _ (λ x at e.
-        let few = (small most ds b (same (Entail a (b ∷ [])) is).heaps.1.0).pures in short_at b.pure k x at few))
+        let few = (small most ds b (same (Entail a (b ∷ [])) is).heaps.1.0).pures in short_at b.pure k x at (omega (arith, bounded.pure))))
     rule_short (Frame i k) =
         let X = IsShortNumber i × IsShortNumber k in
         single_gives (Gives X ps) (no_answer X ps) j _ (λ a b is.
@@ -120,37 +123,37 @@ module _ (most : ℕ) (bounded : most ≤ 32) (ds : List Definition) (lines : Li
         let w = same (Entail a (b ∷ [])) is in
         let left = (small most ds a w.heaps.0).spatials in
         let right = (small most ds b w.heaps.1.0).spatials in
-        (short_at a.spatial i x at_i (omega arith), short_at b.spatial k y at_k (omega arith)))))
+        (short_at a.spatial i x at_i (omega (arith, bounded.spatial)), short_at b.spatial k y at_k (omega (arith, bounded.spatial))))))
     rule_short (UnfoldRight k c) =
         let X = IsShortNumber k × IsShortNumber c in
         single_gives (Gives X ps) (no_answer X ps) j _ (λ a b is.
         finds_gives (Gives X ps) (no_answer X ps) (slice_get b.spatial k) NoSuchAtom _ (λ x at e.
         let few = (small most ds b (same (Entail a (b ∷ [])) is).heaps.1.0).spatials in
-        (short_at b.spatial k x at (omega arith), right_short most ds ps a b k c x d e)))
+        (short_at b.spatial k x at (omega (arith, bounded.spatial)), right_short most bounded ds ps a b k c x d e)))
     rule_short (Drop k) =
         let X = IsShortNumber k in
         runs_gives (Gives X ps) (no_answer X ps) j _ (λ i a is.
         finds_gives (Gives X ps) (no_answer X ps) (slice_get a.spatial k) NoSuchAtom _ (λ x at e.
-        let few = (small most ds a (same (Runs i a) is).heaps.0).spatials in short_at a.spatial k x at (omega arith)))
+        let few = (small most ds a (same (Runs i a) is).heaps.0).spatials in short_at a.spatial k x at (omega (arith, bounded.spatial))))
     rule_short rule = λ e. tt
 
 -- ---- links
 
 map_short : (pures : List Pure) (atoms : List Spatial) (free : ℕ → Bool) (ms : List ℕ) (xs : List Spatial)
-    → length atoms ≤ 64 → MapsInto pures atoms free ms xs → Each IsShortNumber ms
+    → length atoms ≤ MOST_PURE → MapsInto pures atoms free ms xs → Each IsShortNumber ms
 map_short pures atoms free [] xs few m = tt
 map_short pures atoms free (k ∷ ms) [] few m = absurd m
 map_short pures atoms free (k ∷ ms) (x ∷ xs) few m =
     (short_at atoms k m.0 m.1 few, map_short pures atoms _ ms xs few m.4)
 
-disjuncts_short : (bs : List SymbolicHeap) (ms : List ℕ) (cs : List SymbolicHeap) → length bs ≤ 64
+disjuncts_short : (bs : List SymbolicHeap) (ms : List ℕ) (cs : List SymbolicHeap) → length bs ≤ MOST_PURE
     → DisjunctsCover bs ms cs → Each IsShortNumber ms
 disjuncts_short bs [] cs few m = tt
 disjuncts_short bs (k ∷ ms) [] few m = absurd m
 disjuncts_short bs (k ∷ ms) (c ∷ cs) few m = (short_at bs k m.0 m.1 few, disjuncts_short bs ms cs few m.3)
 
 parts_short : (a : SymbolicHeap) (bs : List SymbolicHeap) (b : SymbolicHeap) (cs : List SymbolicHeap) (whole : Bool)
-    (link : Link) → length a.spatial ≤ 64 → length bs ≤ 64 → parts_fault a bs b cs whole link ≡ None
+    (link : Link) → length a.spatial ≤ MOST_PURE → length bs ≤ MOST_PURE → parts_fault a bs b cs whole link ≡ None
     → IsShortNumber link.target → HasShortLink link
 parts_short a bs b cs whole link few_atoms few_disjuncts e short =
     let parts = parts_are a bs b cs whole link e in
@@ -161,13 +164,13 @@ parts_short a bs b cs whole link few_atoms few_disjuncts e short =
       disjuncts = disjuncts_short bs link.disjuncts (map (apply_heap link.subst) cs) few_disjuncts parts.3;
     }
 
-pub link_short : (most : ℕ) (ds : List Definition) (count p : ℕ) (bud companion : Judgement) (link : Link) → most ≤ 32
+pub link_short : (most : Limits) (ds : List Definition) (count p : ℕ) (bud companion : Judgement) (link : Link) → AreLimits most
     → IsJudgementWithin most ds count bud → link_fault bud companion link p ≡ None → IsShortNumber link.target
     → HasShortLink link
 link_short most ds count p (Entail a bs) (Entail b cs) link bounded h e short =
     let atoms = (small most ds a h.heaps.0).spatials in
     let few = h.form.1 in
-    parts_short a bs b cs (nat_le (length a.spatial) (length b.spatial)) link (omega arith) (omega arith) e short
+    parts_short a bs b cs (nat_le (length a.spatial) (length b.spatial)) link (omega (arith, bounded.spatial)) (omega arith) e short
 link_short most ds count p (Runs i a) (Runs k b) link bounded h e short =
     let f = none_of_two (fault_unless (nat_eq i k) LineDiffers) _ e in
     let g = none_of_two (fault_unless (keeps_below link.subst p) LinkProgramVariable) (parts_fault a [] b [] true link)

@@ -2,6 +2,7 @@
 use Rattle.std.proofs.Common.{◌≢◌, ℕ, List, refl, subst}
 use Rattle.std.specs.Prelude.{Result, Ok, Err, Vec, IfOk}
 use Rattle.std.specs.declared.alloc.Global.{Global}
+use Rattle.cyc_basics.specs.declared.limits.Limits.{Limits}
 use Rattle.heap_formula.specs.declared.commands.Command.{Command}
 use Rattle.heap_formula.specs.declared.judgements.Judgement.{Judgement}
 use Rattle.heap_formula.specs.declared.judgements.Premise.{Premise}
@@ -29,14 +30,14 @@ use Rattle.rule_table.proofs.Keeps.{rule_keeps}
 use Rattle.symbolic_exec.proofs.ProgramLines.{program_commands}
 
 -- every rule but Exec, for any program with no more variables
-elsewhere : (most : ℕ) (ds : List Definition) (program lines : List Command) (j : Judgement) (rule : Rule) → rule ≢ Exec
+elsewhere : (most : Limits) (ds : List Definition) (program lines : List Command) (j : Judgement) (rule : Rule) → rule ≢ Exec
     → HasVariables lines (variables_of program j) j → IsUniversalHeap (antecedent j)
     → IsSound ds lines j (rule_answer most ds program j rule)
 elsewhere most ds program lines j Absurd other v u = absurd_is_sound ds lines j
 elsewhere most ds program lines j (Rewrite k side) other v u = rewrite_is_sound ds lines (variables_of program j)
     j k side u
-elsewhere most ds program lines j (Split t w) other v u = split_is_sound ds lines j t w
-elsewhere most ds program lines j (Distinct i k) other v u = distinct_is_sound ds lines j i k
+elsewhere most ds program lines j (Split t w) other v u = split_is_sound ds lines most j t w
+elsewhere most ds program lines j (Distinct i k) other v u = distinct_is_sound ds lines most j i k
 elsewhere most ds program lines j (Weaken k) other v u = weaken_is_sound ds lines j k
 elsewhere most ds program lines j (Unfold k) other v u = unfold_is_sound ds lines most (variables_of program j) j k v
 elsewhere most ds program lines j (Cut places f) other v u = cut_is_sound ds lines most (variables_of program j)
@@ -50,7 +51,7 @@ elsewhere most ds program lines j (UnfoldRight k n) other v u = unfold_right_is_
 elsewhere most ds program lines j Exec other v u = absurd (other refl)
 elsewhere most ds program lines j (Drop k) other v u = drop_is_sound ds lines j k
 
-module _ (most : ℕ) (ds : List Definition) (program : List Command) (j : Judgement) (rule : Rule) where
+module _ (most : Limits) (ds : List Definition) (program : List Command) (j : Judgement) (rule : Rule) where
   pub answer_sound : (r : Result (Vec Premise Global) RuleError) → IsProgram program
       → IsAnswer r (rule_answer most ds program j rule) → IfOk r
       (λ v. IsUniversalHeap (antecedent j) → IsLocallySound ds program j v.items)

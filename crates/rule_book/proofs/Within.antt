@@ -3,6 +3,7 @@ use Rattle.std.proofs.Common.{◌≡◌, ℕ, zero, suc, ◌+◌, ◌-◌, ◌<�
 use Rattle.std.proofs.Common.{length, length-set, Some, refl, subst, arith}
 use Rattle.std.proofs.lemmas.List.{length-map}
 use Rattle.std.specs.Prelude.{Ok, Err, nat_eq, nat_le, if◌then◌else◌, slice_get, slice_set}
+use Rattle.cyc_basics.specs.declared.limits.Limits.{Limits}
 use Rattle.heap_formula.specs.declared.terms.Term.{Term}
 use Rattle.heap_formula.specs.declared.terms.Term.TheVariants.{Nil, Univ, Exist}
 use Rattle.heap_formula.specs.declared.atoms.Pure.{Pure}
@@ -61,7 +62,7 @@ use Rattle.rule_table.proofs.EmptyPremises.{empty_on}
 
 -- ---- cases
 
-case_shapes : (most : ℕ) (ds es : List Definition) → Each (IsDefinitionWithin most ds) es → (q : ℕ)
+case_shapes : (most : Limits) (ds es : List Definition) → Each (IsDefinitionWithin most ds) es → (q : ℕ)
     → Each (λ (c : SymbolicHeap). Each (IsShaped ds) c.spatial) (cases_of es q)
 case_shapes most ds [] e q = tt
 case_shapes most ds (d ∷ es) e zero =
@@ -93,13 +94,13 @@ pures_low true k v x u xs p q r = low_pures_after (apply_term ((v, u) ∷ [])) (
 pures_low false k v x u xs p q r = each_set (InPure IsLow) (map (apply_pure ((v, u) ∷ [])) xs) k x q
     (low_pures_after (apply_term ((v, u) ∷ [])) (low_replaced v u p) xs r)
 
-pures_few : (b : Bool) (k v : ℕ) (x : Pure) (u : Term) (xs : List Pure) → length xs ≤ 64
+pures_few : (most : ℕ) (b : Bool) (k v : ℕ) (x : Pure) (u : Term) (xs : List Pure) → length xs ≤ most
     → length (cond b (map (apply_pure ((v, u) ∷ [])) (without k xs))
-    (slice_set (map (apply_pure ((v, u) ∷ [])) xs) k x)) ≤ 64
-pures_few true k v x u xs h =
+    (slice_set (map (apply_pure ((v, u) ∷ [])) xs) k x)) ≤ most
+pures_few most true k v x u xs h =
     let e = length-map (without k xs) (apply_pure ((v, u) ∷ [])) in
     let l = length-without xs k in omega arith
-pures_few false k v x u xs h =
+pures_few most false k v x u xs h =
     let e = length-map xs (apply_pure ((v, u) ∷ [])) in
     let l = length-set (map (apply_pure ((v, u) ∷ [])) xs) k x in omega arith
 
@@ -107,7 +108,7 @@ length-variables_from : (n k : ℕ) → length (variables_from n k) ≡ k
 length-variables_from n zero = refl
 length-variables_from n (suc k) = let r = length-variables_from (suc n) k in omega arith
 
-module _ (most : ℕ) (ds : List Definition) (n : ℕ) where
+module _ (most : Limits) (ds : List Definition) (n : ℕ) where
   abbrev P : Premise → Type 0
   P = IsNearly most ds n
 
@@ -140,12 +141,11 @@ module _ (most : ℕ) (ds : List Definition) (n : ℕ) where
       pures_nearly j (without k (antecedent j).pure) h (length-without (antecedent j).pure k)
       (Each-without (InPure IsLow) (antecedent j).pure k s.low.0)
 
-  pures_ready : (tested : ℕ) (j : Judgement) (xs : List Pure) → IsJudgementWithin most ds n j
-      → IsReady most ds n tested (with_pures j xs)
-  pures_ready tested j xs h = (
-    heaps_with (IsReadyHeap most ds n tested) j (record { pure = xs; spatial = (antecedent j).spatial })
-        (ready most ds n tested (antecedent j) (first_heap H j h.heaps))
-        (all_ready most ds n tested (heaps_of j) h.heaps),
+  pures_ready : (j : Judgement) (xs : List Pure) → IsJudgementWithin most ds n j
+      → IsReady most ds n (with_pures j xs)
+  pures_ready j xs h = (
+    heaps_with (IsReadyHeap most ds n) j (record { pure = xs; spatial = (antecedent j).spatial })
+        (ready most ds n (antecedent j) (first_heap H j h.heaps)) (all_ready most ds n (heaps_of j) h.heaps),
     form_with n j (record { pure = xs; spatial = (antecedent j).spatial }) h.form,
   )
 
@@ -157,7 +157,7 @@ module _ (most : ℕ) (ds : List Definition) (n : ℕ) where
       let e = length-map (antecedent j).spatial (apply_spatial ((v, u) ∷ [])) in
       let m = s.spatials in
       let a = within most ds _ (record {
-        pures = pures_few (nat_le p v) k v x u (antecedent j).pure s.pures;
+        pures = pures_few most.pure (nat_le p v) k v x u (antecedent j).pure s.pures;
         spatials = omega arith;
         low = (
           pures_low (nat_le p v) k v x u (antecedent j).pure r q s.low.0,
@@ -194,14 +194,14 @@ module _ (most : ℕ) (ds : List Definition) (n : ℕ) where
   -- ---- Unfold
 
   unfold_ready : (j : Judgement) (k : ℕ) (ts : List Term) (m : ℕ) (case : SymbolicHeap) → IsJudgementWithin most ds n j
-      → Each Shaped case.spatial → IsReady most ds n most (unfold_premise j k ts m case)
+      → Each Shaped case.spatial → IsReady most ds n (unfold_premise j k ts m case)
   unfold_ready j k ts m case h c =
       let s = small most ds (antecedent j) (first_heap H j h.heaps) in
       let a = unfolded (antecedent j) k (case_body ts m case) in
       let shaped = each_append Shaped (without k (antecedent j).spatial) (case_body ts m case).spatial
       (Each-without Shaped (antecedent j).spatial k s.shaped) (shapes_after ds (case_term ts m) case.spatial c) in (
-        heaps_with (IsReadyHeap most ds n most) j a ((λ few. few), shaped)
-            (all_ready most ds n most (heaps_of j) h.heaps),
+        heaps_with (IsReadyHeap most ds n) j a shaped
+            (all_ready most ds n (heaps_of j) h.heaps),
         form_with n j a h.form,
       )
 
@@ -211,29 +211,29 @@ module _ (most : ℕ) (ds : List Definition) (n : ℕ) where
   unfold_nearly p j k (Cell t ts) d h = tt
   unfold_nearly p j k (Pred q ts) d h =
       let m = fresh_number p j in
-      limited_nearly most ds n most (map (unfold_premise j k ts m) (cases_of ds q))
-      (each_made (unfold_premise j k ts m) (λ (c : SymbolicHeap). Each Shaped c.spatial) (IsReady most ds n most)
+      limited_nearly most ds n (map (unfold_premise j k ts m) (cases_of ds q))
+      (each_made (unfold_premise j k ts m) (λ (c : SymbolicHeap). Each Shaped c.spatial) (IsReady most ds n)
       (λ c. unfold_ready j k ts m c h) (cases_of ds q) (case_shapes most ds ds d q))
 
   -- ---- Cut
 
-  left_ready : (a f : SymbolicHeap) (p : ℕ → Bool) → H a → H f → IsReady most ds n most (cut_left a p f)
+  left_ready : (a f : SymbolicHeap) (p : ℕ → Bool) → H a → H f → IsReady most ds n (cut_left a p f)
   left_ready a f p h g =
       let s = small most ds a h in (
-        (((λ few. few), each_chosen Shaped a.spatial p s.shaped), (ready most ds n most f g, tt)),
+        (each_chosen Shaped a.spatial p s.shaped, (ready most ds n f g, tt)),
         (omega arith, omega arith),
       )
 
   right_ready : (j : Judgement) (f : SymbolicHeap) (p : ℕ → Bool) (m : ℕ) → IsJudgementWithin most ds n j → H f
-      → IsReady most ds n most (cut_right j p f m)
+      → IsReady most ds n (cut_right j p f m)
   right_ready j f p m h g =
       let s = small most ds (antecedent j) (first_heap H j h.heaps) in
       let body = in_heap (opened_term m) f in
       let shaped = each_append Shaped (chosen (others_of p) (antecedent j).spatial) body.spatial
       (each_chosen Shaped (antecedent j).spatial (others_of p) s.shaped)
       (shapes_after ds (opened_term m) f.spatial (small most ds f g).shaped) in (
-        heaps_with (IsReadyHeap most ds n most) j _ ((λ few. few), shaped)
-            (all_ready most ds n most (heaps_of j) h.heaps),
+        heaps_with (IsReadyHeap most ds n) j _ shaped
+            (all_ready most ds n (heaps_of j) h.heaps),
         form_with n j _ h.form,
       )
 
@@ -267,12 +267,12 @@ module _ (most : ℕ) (ds : List Definition) (n : ℕ) where
       })
 
   unfolded_ready : (a b : SymbolicHeap) (k : ℕ) (f : Term → Term) (case : SymbolicHeap) → H a → H b
-      → Each Shaped case.spatial → IsReady most ds n most (with_right a (unfolded b k (in_heap f case) ∷ []))
+      → Each Shaped case.spatial → IsReady most ds n (with_right a (unfolded b k (in_heap f case) ∷ []))
   unfolded_ready a b k f case h g c =
       let s = small most ds b g in
       let shaped = each_append Shaped (without k b.spatial) (in_heap f case).spatial
       (Each-without Shaped b.spatial k s.shaped) (shapes_after ds f case.spatial c) in
-      ((ready most ds n most a h, (((λ few. few), shaped), tt)), (omega arith, omega arith))
+      ((ready most ds n a h, (shaped, tt)), (omega arith, omega arith))
 
   unfold_right_nearly : (a b : SymbolicHeap) (k c : ℕ) (x : Spatial) → Each (IsDefinitionWithin most ds) ds → H a → H b
       → OnPremises P (calls x (λ q ts. finds (slice_get (cases_of ds q) c) NoSuchCase
@@ -282,15 +282,15 @@ module _ (most : ℕ) (ds : List Definition) (n : ℕ) where
       finds_gives (OnPremises P) bad (slice_get (cases_of ds q) c) NoSuchCase _ (λ case at.
       let shaped = each_at (λ (c : SymbolicHeap). Each Shaped c.spatial) (cases_of ds q) c case at
       (case_shapes most ds ds d q) in
-      limited_nearly most ds n most (one (with_right a (unfolded b k (in_heap (right_term ts (heap_exists b)) case)
+      limited_nearly most ds n (one (with_right a (unfolded b k (in_heap (right_term ts (heap_exists b)) case)
       ∷ []))) (unfolded_ready a b k (right_term ts (heap_exists b)) case h g shaped, tt))
 
   -- ---- Exec
 
   module _ (i : ℕ) (a : SymbolicHeap) (m : ℕ) (h : H a) where
     state_ready : (k : ℕ) (b : SymbolicHeap) → IsLineOf n k → Each Shaped b.spatial
-        → IsReady most ds n most (at_line k a b)
-    state_ready k b l s = ((((λ few. few), s), tt), l)
+        → IsReady most ds n (at_line k a b)
+    state_ready k b l s = ((s, tt), l)
 
     shaped : Each Shaped a.spatial
     shaped = (small most ds a h).shaped
@@ -318,24 +318,24 @@ module _ (most : ℕ) (ds : List Definition) (n : ℕ) where
 
     command_nearly : (c : Command) → MayStandAt n i c → OnPremises P (command_answer most i a m c)
     command_nearly Stop l = tt
-    command_nearly (Goto j) l = limited_nearly most ds n most (one (at_line j a a)) (state_ready j a l shaped, tt)
+    command_nearly (Goto j) l = limited_nearly most ds n (one (at_line j a a)) (state_ready j a l shaped, tt)
     command_nearly (IfEq t u j) l =
-        limited_nearly most ds n most (two (at_line j a (with_atom a (Eq t u)))
+        limited_nearly most ds n (two (at_line j a (with_atom a (Eq t u)))
         (at_line (i + 1) a (with_atom a (Neq t u)))) (
           state_ready j (with_atom a (Eq t u)) l.1 shaped,
           (state_ready (i + 1) (with_atom a (Neq t u)) (next l.0) shaped, tt),
         )
     command_nearly (IfNeq t u j) l =
-        limited_nearly most ds n most (two (at_line j a (with_atom a (Neq t u)))
+        limited_nearly most ds n (two (at_line j a (with_atom a (Neq t u)))
         (at_line (i + 1) a (with_atom a (Eq t u)))) (
           state_ready j (with_atom a (Neq t u)) l.1 shaped,
           (state_ready (i + 1) (with_atom a (Eq t u)) (next l.0) shaped, tt),
         )
     command_nearly (IfAny j) l =
-        limited_nearly most ds n most (two (at_line j a a) (at_line (i + 1) a a))
+        limited_nearly most ds n (two (at_line j a a) (at_line (i + 1) a a))
         (state_ready j a l.1 shaped, (state_ready (i + 1) a (next l.0) shaped, tt))
     command_nearly (Assign x t) l =
-        limited_nearly most ds n most (one (at_line (i + 1) a
+        limited_nearly most ds n (one (at_line (i + 1) a
         (with_atom (renamed x m a) (Eq (Univ x) (renamed_term x m t))))) (
           state_ready (i + 1) (with_atom (renamed x m a) (Eq (Univ x) (renamed_term x m t))) (next l)
               (renamed_shaped x),
@@ -344,7 +344,7 @@ module _ (most : ℕ) (ds : List Definition) (n : ℕ) where
     command_nearly (Load x t k) l =
         finds_gives (OnPremises P) bad (cell_of a.pure t a.spatial) NoCell _ (λ c found.
         finds_gives (OnPremises P) bad (counted_from_one c.fields k) NoCell _ (λ f field.
-        limited_nearly most ds n most (one (at_line (i + 1) a
+        limited_nearly most ds n (one (at_line (i + 1) a
         (with_atom (renamed x m a) (Eq (Univ x) (renamed_term x m f))))) (
           state_ready (i + 1) (with_atom (renamed x m a) (Eq (Univ x) (renamed_term x m f))) (next l.0)
               (renamed_shaped x),
@@ -353,14 +353,14 @@ module _ (most : ℕ) (ds : List Definition) (n : ℕ) where
     command_nearly (Store t k u) l =
         finds_gives (OnPremises P) bad (cell_of a.pure t a.spatial) NoCell _ (λ c found.
         finds_gives (OnPremises P) bad (counted_from_one c.fields k) NoCell _ (λ f field.
-        limited_nearly most ds n most (one (at_line (i + 1) a (with_field a c k u))) (
+        limited_nearly most ds n (one (at_line (i + 1) a (with_field a c k u))) (
           state_ready (i + 1) (with_field a c k u) (next l.0)
               (each_set Shaped a.spatial c.place (Cell c.address (slice_set c.fields (k - 1) u))
               (field_shaped c (k - 1) u (cell_shaped t c found)) shaped),
           tt,
         )))
     command_nearly (New x k) l =
-        limited_nearly most ds n most (one (at_line (i + 1) a (with_cell (renamed x m a) x (variables_from (m + 1) k)))) (
+        limited_nearly most ds n (one (at_line (i + 1) a (with_cell (renamed x m a) x (variables_from (m + 1) k)))) (
           state_ready (i + 1) (with_cell (renamed x m a) x (variables_from (m + 1) k)) (next l.0)
               (each_append Shaped (renamed x m a).spatial (Cell (Univ x) (variables_from (m + 1) k) ∷ [])
               (renamed_shaped x) (new_shaped x k l.1.0 l.1.1, tt)),
@@ -368,13 +368,13 @@ module _ (most : ℕ) (ds : List Definition) (n : ℕ) where
         )
     command_nearly (Free t) l =
         finds_gives (OnPremises P) bad (cell_of a.pure t a.spatial) NoCell _ (λ c found.
-        limited_nearly most ds n most (one (record {
+        limited_nearly most ds n (one (record {
           judgement = Runs (i + 1) (without_spatial c.place a);
           pairs = kept_pairs c.place a.spatial;
         })) (
           (
             (
-              ((λ few. few), Each-without Shaped a.spatial c.place shaped),
+              Each-without Shaped a.spatial c.place shaped,
               tt,
             ),
             next l,
@@ -382,7 +382,7 @@ module _ (most : ℕ) (ds : List Definition) (n : ℕ) where
           tt,
         ))
 
-pub rule_nearly : (most : ℕ) (ds : List Definition) (lines : List Command) (j : Judgement) (rule : Rule)
+pub rule_nearly : (most : Limits) (ds : List Definition) (lines : List Command) (j : Judgement) (rule : Rule)
     → Each (IsDefinitionWithin most ds) ds → IsProgram lines → IsJudgementWithin most ds (length lines) j
     → IsRuleWithin most ds rule → OnPremises (IsNearly most ds (length lines)) (rule_answer most ds lines j rule)
 rule_nearly most ds lines j rule d g h = by rule
@@ -409,22 +409,22 @@ rule_nearly most ds lines j rule d g h = by rule
         (λ x at. rewrite_nearly most ds n (variables_of lines j) j k side x h
         (each_at (InPure IsLow) (antecedent j).pure k x at s.low.0))
     by (Split t u) r =
-        limited_nearly most ds n 32 (two (with_pure j (Eq t u)) (with_pure j (Neq t u)))
-        (pures_ready most ds n 32 j _ h, (pures_ready most ds n 32 j _ h, tt))
+        limited_nearly most ds n (two (with_pure j (Eq t u)) (with_pure j (Neq t u)))
+        (pures_ready most ds n j _ h, (pures_ready most ds n j _ h, tt))
     by (Distinct i k) r =
         finds_gives S faulty (slice_get (antecedent j).spatial i) NoSuchAtom _ (λ x at_i.
         finds_gives S faulty (slice_get (antecedent j).spatial k) NoSuchAtom _ (λ y at_k.
         finds_gives S faulty (address_of x) NoCell _ (λ t is_t.
         finds_gives S faulty (address_of y) NoCell _ (λ u is_u.
-        limited_nearly most ds n 32 (one (with_pure j (Neq t (if nat_eq i k then Nil else u))))
-        (pures_ready most ds n 32 j _ h, tt)))))
+        limited_nearly most ds n (one (with_pure j (Neq t (if nat_eq i k then Nil else u))))
+        (pures_ready most ds n j _ h, tt)))))
     by (Weaken k) r = finds_gives S faulty (slice_get (antecedent j).pure k) NoSuchAtom _
         (λ x at. (pures_dropped most ds n j k h, tt))
     by (Unfold k) r = finds_gives S faulty (slice_get (antecedent j).spatial k) NoSuchAtom _
         (λ x at. unfold_nearly most ds n (variables_of lines j) j k x d h)
     by (Cut places f) r =
         needs_gives S faulty (ascend_from 0 (length (antecedent j).spatial) places) NoSuchAtom _ (λ _.
-        limited_nearly most ds n most (two (cut_left (antecedent j) (has_number places) f)
+        limited_nearly most ds n (two (cut_left (antecedent j) (has_number places) f)
         (cut_right j (has_number places) f (max (fresh_number (variables_of lines j) j) (heap_bound f)))) (
           left_ready most ds n (antecedent j) f (has_number places) (first_heap (IsHeapWithin most ds) j h.heaps) r,
           (

@@ -1,6 +1,7 @@
 -- What a reason leaves to be shown, or its first fault.
 use Rattle.std.specs.Prelude.{ℕ, List, [], ◌∷◌, Option, Some, None, Ok, Err, slice_get, slice_index}
 use Rattle.std.specs.Option.{option_map}
+use Rattle.cyc_basics.specs.declared.limits.Limits.{Limits}
 use Rattle.heap_formula.specs.declared.commands.Command.{Command}
 use Rattle.heap_formula.specs.declared.judgements.Judgement.{Judgement}
 use Rattle.heap_formula.specs.declared.judgements.Premise.{Premise}
@@ -30,7 +31,7 @@ link_answer lines bud link (Some companion) =
     unless_fault (link_fault bud companion link (variables_of lines bud)) (link_premise companion link)
 
 -- the premises of a rule, or the companion of a link
-abbrev pub reason_answer : ℕ → List Definition → List Command → Judgement → Reason → Option Judgement → Answer
+abbrev pub reason_answer : Limits → List Definition → List Command → Judgement → Reason → Option Judgement → Answer
 reason_answer most ds lines j (Step rule) companion = rule_answer most ds lines j rule
 reason_answer most ds lines j (Back link) companion = link_answer lines j link companion
 

@@ -1,7 +1,8 @@
--- What may stand in a proof file whose heaps have at most so many spatial atoms.
+-- What may stand in a proof file of a version with these limits.
 use Rattle.std.specs.Prelude.{◌≡◌, ℕ, ◌<◌, ◌≤◌, ◌^◌, List, length, true, None}
-use Rattle.cyc_basics.specs.declared.limits.TheConstants.{GREATEST_VARIABLE, MOST_ARGUMENTS, MOST_CASES, MOST_DISJUNCTS}
-use Rattle.cyc_basics.specs.declared.limits.TheConstants.{MOST_LOCALS, VARIABLE_NUMBERS}
+use Rattle.cyc_basics.specs.declared.limits.Limits.{Limits}
+use Rattle.cyc_basics.specs.declared.limits.TheConstants.{GREATEST_VARIABLE, MOST_ARGUMENTS, MOST_DISJUNCTS}
+use Rattle.cyc_basics.specs.declared.limits.TheConstants.{VARIABLE_NUMBERS}
 use Rattle.heap_formula.specs.declared.terms.Term.{Term}
 use Rattle.heap_formula.specs.declared.atoms.Spatial.{Spatial}
 use Rattle.heap_formula.specs.declared.atoms.Spatial.TheVariants.{Cell, Pred}
@@ -32,9 +33,9 @@ abbrev pub HasFields : Spatial → Type 0
 HasFields (Cell t ts) = (0 < length ts) × (length ts ≤ MOST_ARGUMENTS)
 HasFields (Pred q ts) = Unit {0}
 
--- a heap outside definitions: at most 64 pure and `most` spatial atoms, variables up to number 65,534, known predicates
+-- a heap outside definitions: no more atoms than the version allows, variables up to number 65,534, known predicates
 -- with their numbers of arguments, and cells of one to eight fields
-pub record IsHeapWithin (most : ℕ) (ds : List Definition) (a : SymbolicHeap) : Type 0 where
+pub record IsHeapWithin (most : Limits) (ds : List Definition) (a : SymbolicHeap) : Type 0 where
   pub short : is_short most a ≡ true
   pub numbers : has_numbers a ≡ true
   pub known : case_fault ds a ≡ None
@@ -46,27 +47,27 @@ IsFormWithin count (Entail a bs) = (0 < length bs) × (length bs ≤ MOST_DISJUN
 IsFormWithin count (Runs i a) = IsLineOf count i
 
 -- a judgement over these definitions, and so many lines
-pub record IsJudgementWithin (most : ℕ) (ds : List Definition) (count : ℕ) (j : Judgement) : Type 0 where
+pub record IsJudgementWithin (most : Limits) (ds : List Definition) (count : ℕ) (j : Judgement) : Type 0 where
   pub heaps : Each (IsHeapWithin most ds) (heaps_of j)
   pub universal : IsUniversalHeap (antecedent j)
   pub form : IsFormWithin count j
 
-abbrev pub IsPremiseWithin : ℕ → List Definition → ℕ → Premise → Type 0
+abbrev pub IsPremiseWithin : Limits → List Definition → ℕ → Premise → Type 0
 IsPremiseWithin most ds count p = IsJudgementWithin most ds count p.judgement
 
 -- ---- definitions
 
--- a case: a heap with the parameters as its universal variables, and at most sixteen locals
-pub record IsCaseWithin (most : ℕ) (ds : List Definition) (arity : ℕ) (case : SymbolicHeap) : Type 0 where
+-- a case: a heap with the parameters as its universal variables, and no more locals than the version allows
+pub record IsCaseWithin (most : Limits) (ds : List Definition) (arity : ℕ) (case : SymbolicHeap) : Type 0 where
   pub heap : IsHeapWithin most ds case
   pub parameters : heap_bound case ≤ arity
-  pub locals : heap_exists case ≤ MOST_LOCALS
+  pub locals : heap_exists case ≤ most.locals
 
--- a definition: at most eight parameters, one to sixteen cases
-pub record IsDefinitionWithin (most : ℕ) (ds : List Definition) (d : Definition) : Type 0 where
-  pub arity : d.arity ≤ MOST_ARGUMENTS
+-- a definition: no more parameters and cases than the version allows, and one case at least
+pub record IsDefinitionWithin (most : Limits) (ds : List Definition) (d : Definition) : Type 0 where
+  pub arity : d.arity ≤ most.arguments
   pub some_case : 0 < length d.cases
-  pub few : length d.cases ≤ MOST_CASES
+  pub few : length d.cases ≤ most.cases
   pub cases : Each (IsCaseWithin most ds d.arity) d.cases
 
 -- ---- reasons
@@ -76,7 +77,7 @@ abbrev pub IsTermWithin : Term → Type 0
 IsTermWithin t = IsUniversal t × (number_bound t ≤ VARIABLE_NUMBERS)
 
 -- the terms and the formula of a rule
-abbrev pub IsRuleWithin : ℕ → List Definition → Rule → Type 0
+abbrev pub IsRuleWithin : Limits → List Definition → Rule → Type 0
 IsRuleWithin most ds (Split t u) = IsTermWithin t × IsTermWithin u
 IsRuleWithin most ds (Cut places f) = IsHeapWithin most ds f
 IsRuleWithin most ds (Instantiate v t) = (v ≤ GREATEST_VARIABLE) × IsTermWithin t
@@ -86,7 +87,7 @@ abbrev pub IsPairWithin : ℕ × Term → Type 0
 IsPairWithin pair = (pair.0 ≤ GREATEST_VARIABLE) × IsTermWithin pair.1
 
 -- what a rule or a link brings in of its own
-abbrev pub IsReasonWithin : ℕ → List Definition → Reason → Type 0
+abbrev pub IsReasonWithin : Limits → List Definition → Reason → Type 0
 IsReasonWithin most ds (Step rule) = IsRuleWithin most ds rule
 IsReasonWithin most ds (Back link) = Each IsPairWithin link.subst
 

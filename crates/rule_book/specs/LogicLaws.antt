@@ -3,6 +3,7 @@ use Rattle.std.proofs.Common.{◌≡◌, ℕ, true, List, map, length, Option, S
 use Rattle.std.proofs.Common.{arith}
 use Rattle.std.specs.Prelude.{slice_get}
 use Rattle.std.proofs.lemmas.List.{length-map}
+use Rattle.cyc_basics.specs.declared.limits.Limits.{Limits}
 use Rattle.heap_formula.specs.declared.commands.Command.{Command}
 use Rattle.heap_formula.specs.declared.judgements.Judgement.{Judgement}
 use Rattle.heap_formula.specs.declared.judgements.Pair.{Pair}
@@ -53,7 +54,7 @@ joined a b pairs fit i p is =
           (place_of (antecedent b).spatial q.from.new both.1),
     )
 
-module _ (most : ℕ) (ds : List Definition) (lines : List Command) where
+module _ (most : Limits) (ds : List Definition) (lines : List Command) where
   -- what a rule answers
   record Answered (j : Judgement) (rule : Rule) (ps : List (Subgoal Judgement)) : Type 0 where
     premises : List Premise

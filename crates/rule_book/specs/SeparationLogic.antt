@@ -1,5 +1,6 @@
 -- Separation logic as plain data: what its rules and links leave to be shown, and along which pairs.
 use Rattle.std.specs.Prelude.{ℕ, List, map, Option, Some, None, Result, Ok, Err}
+use Rattle.cyc_basics.specs.declared.limits.Limits.{Limits}
 use Rattle.heap_formula.specs.declared.commands.Command.{Command}
 use Rattle.heap_formula.specs.declared.judgements.Judgement.{Judgement}
 use Rattle.heap_formula.specs.declared.judgements.Premise.{Premise}
@@ -34,7 +35,7 @@ pairs_unless None premise = Ok (trace_pairs_of premise.pairs)
 pairs_unless (Some f) premise = Err f
 
 -- the premises of a rule; a link is none
-abbrev pub rule_premises : ℕ → List Definition → List Command → Judgement → Reason
+abbrev pub rule_premises : Limits → List Definition → List Command → Judgement → Reason
     → Result (List (Subgoal Judgement)) RuleFault
 rule_premises most ds lines j (Step rule) = traced_answer (rule_answer most ds lines j rule)
 rule_premises most ds lines j (Back link) = Err NoSuchNode
@@ -50,7 +51,7 @@ abbrev pub target_of : Reason → Option ℕ
 target_of (Step rule) = None
 target_of (Back link) = Some link.target
 
-abbrev pub separation_logic : ℕ → List Definition → List Command → LogicValue Judgement Reason RuleFault
+abbrev pub separation_logic : Limits → List Definition → List Command → LogicValue Judgement Reason RuleFault
 separation_logic most ds lines = record {
   positions = positions_of;
   same = same_judgement;

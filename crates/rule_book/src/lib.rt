@@ -52,8 +52,8 @@ fn answer(
     match rule {
         Rule::Absurd => premises_absurd(alloc, judgement, p),
         Rule::Rewrite(k, side) => premises_rewrite(alloc, judgement, p, *k, *side),
-        Rule::Split(t, u) => premises_split(alloc, judgement, p, *t, *u),
-        Rule::Distinct(i, k) => premises_distinct(alloc, judgement, p, *i, *k),
+        Rule::Split(t, u) => premises_split(alloc, judgement, p, *t, *u, defs.most()),
+        Rule::Distinct(i, k) => premises_distinct(alloc, judgement, p, *i, *k, defs.most()),
         Rule::Weaken(k) => premises_weaken(alloc, judgement, p, *k),
         Rule::Unfold(k) => premises_unfold(alloc, defs, judgement, p, *k),
         Rule::Cut(places, formula) => premises_cut(

@@ -2,6 +2,7 @@
 use Rattle.std.proofs.Common.{◌≡◌, ℕ, zero, suc, ◌+◌, ◌-◌, max, Bool, true, false, cond, List, [], ◌∷◌, ◌++◌, map}
 use Rattle.std.proofs.Common.{length, Some, None, refl, ap, ◌∙◌}
 use Rattle.std.specs.Prelude.{Ok, slice_get, slice_set, slice_index, nat_eq, nat_le, if◌then◌else◌}
+use Rattle.cyc_basics.specs.declared.limits.Limits.{Limits}
 use Rattle.heap_formula.specs.declared.terms.Term.{Term}
 use Rattle.heap_formula.specs.declared.terms.Term.TheVariants.{Nil, Univ, Exist}
 use Rattle.heap_formula.specs.declared.atoms.Pure.{Pure}
@@ -115,7 +116,7 @@ unfold_cases_fit : (j : Judgement) (k q : ℕ) (ts : List Term) (n : ℕ) (cases
 unfold_cases_fit j k q ts n [] at = tt
 unfold_cases_fit j k q ts n (c ∷ cs) at = (unfold_one_fits j k q ts n c at, unfold_cases_fit j k q ts n cs at)
 
-unfold_fits : (most : ℕ) (ds : List Definition) (p : ℕ) (j : Judgement) (k : ℕ) (x : Spatial)
+unfold_fits : (most : Limits) (ds : List Definition) (p : ℕ) (j : Judgement) (k : ℕ) (x : Spatial)
     → slice_get (antecedent j).spatial k ≡ Some x → OnPremises (PremiseFits j)
     (calls x (λ q ts. limited most (map (unfold_premise j k ts (fresh_number p j)) (cases_of ds q))))
 unfold_fits most ds p j k (Cell t ts) at = tt
@@ -129,7 +130,7 @@ cut_right_fits (Entail a bs) p f n = chosen_fit (others_of p) a.spatial _
 cut_right_fits (Runs m a) p f n = chosen_fit (others_of p) a.spatial _
     (λ i q. pred_front (chosen (others_of p) a.spatial) _ i q)
 
-unfold_right_fits : (most : ℕ) (ds : List Definition) (a b : SymbolicHeap) (k c : ℕ) (x : Spatial)
+unfold_right_fits : (most : Limits) (ds : List Definition) (a b : SymbolicHeap) (k c : ℕ) (x : Spatial)
     → OnPremises (PremiseFits (Entail a (b ∷ []))) (calls x (λ q ts.
     finds (slice_get (cases_of ds q) c) NoSuchCase (λ case. limited most
     (one (with_right a (unfolded b k (in_heap (right_term ts (heap_exists b)) case) ∷ []))))))
@@ -143,7 +144,7 @@ unfold_right_fits most ds a b k c (Pred q ts) =
 renamed_pred : (x n : ℕ) (a : SymbolicHeap) (i : ℕ) → IsPredAt a.spatial i → IsPredAt (renamed x n a).spatial i
 renamed_pred x n a i p = get_mapped (apply_term ((x, Univ n) ∷ [])) a.spatial i p
 
-command_fits : (most : ℕ) (i : ℕ) (a : SymbolicHeap) (n : ℕ) (c : Command)
+command_fits : (most : Limits) (i : ℕ) (a : SymbolicHeap) (n : ℕ) (c : Command)
     → OnPremises (PremiseFits (Runs i a)) (command_answer most i a n c)
 command_fits most i a n Stop = tt
 command_fits most i a n (Goto j) = limited_on (PremiseFits (Runs i a)) most (one (at_line j a a))
@@ -200,21 +201,21 @@ command_fits most i a n (Free t) =
       tt,
     ))
 
-pub rule_fits : (most : ℕ) (ds : List Definition) (lines : List Command) (j : Judgement) (rule : Rule)
+pub rule_fits : (most : Limits) (ds : List Definition) (lines : List Command) (j : Judgement) (rule : Rule)
     → OnPremises (PremiseFits j) (rule_answer most ds lines j rule)
 rule_fits most ds lines j Absurd = needs_on (PremiseFits j) (is_absurd (antecedent j)) NotAbsurd (Ok []) (λ _. tt)
 rule_fits most ds lines j (Rewrite k side) =
     finds_on (PremiseFits j) (slice_get (antecedent j).pure k) NoSuchAtom _
     (λ x at. rewrite_fits (variables_of lines j) j k side x)
 rule_fits most ds lines j (Split t u) =
-    limited_on (PremiseFits j) 32 (two (with_pure j (Eq t u)) (with_pure j (Neq t u)))
+    limited_on (PremiseFits j) most (two (with_pure j (Eq t u)) (with_pure j (Neq t u)))
     (pures_fit j ((antecedent j).pure ++ Eq t u ∷ []), (pures_fit j ((antecedent j).pure ++ Neq t u ∷ []), tt))
 rule_fits most ds lines j (Distinct i k) =
     finds_on (PremiseFits j) (slice_get (antecedent j).spatial i) NoSuchAtom _ (λ x at_i.
     finds_on (PremiseFits j) (slice_get (antecedent j).spatial k) NoSuchAtom _ (λ y at_k.
     finds_on (PremiseFits j) (address_of x) NoCell _ (λ t is_t.
     finds_on (PremiseFits j) (address_of y) NoCell _ (λ u is_u.
-    limited_on (PremiseFits j) 32 (one (with_pure j (Neq t (if nat_eq i k then Nil else u))))
+    limited_on (PremiseFits j) most (one (with_pure j (Neq t (if nat_eq i k then Nil else u))))
     (pures_fit j ((antecedent j).pure ++ Neq t (if nat_eq i k then Nil else u) ∷ []), tt)))))
 rule_fits most ds lines j (Weaken k) =
     finds_on (PremiseFits j) (slice_get (antecedent j).pure k) NoSuchAtom _

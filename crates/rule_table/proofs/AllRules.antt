@@ -1,5 +1,6 @@
 -- Every rule of the table is sound.
 use Rattle.std.proofs.Common.{ℕ, List, ◌≤◌, arith}
+use Rattle.cyc_basics.specs.declared.limits.Limits.{Limits}
 use Rattle.heap_formula.specs.declared.commands.Command.{Command}
 use Rattle.heap_formula.specs.declared.judgements.Judgement.{Judgement}
 use Rattle.heap_formula.specs.declared.judgements.Judgement.TheVariants.{Entail, Term as Runs}
@@ -24,12 +25,12 @@ pub has_variables : (lines : List Command) (j : Judgement) → HasVariables line
 has_variables lines (Entail a bs) = tt
 has_variables lines (Runs i a) = let le : program_variables lines ≤ program_variables lines = omega arith in le
 
-pub rule_is_sound : (most : ℕ) (ds : List Definition) (lines : List Command) (j : Judgement) (rule : Rule)
+pub rule_is_sound : (most : Limits) (ds : List Definition) (lines : List Command) (j : Judgement) (rule : Rule)
     → IsUniversalHeap (antecedent j) → Each IsCommand lines → IsSound ds lines j (rule_answer most ds lines j rule)
 rule_is_sound most ds lines j Absurd u c = absurd_is_sound ds lines j
 rule_is_sound most ds lines j (Rewrite k side) u c = rewrite_is_sound ds lines (variables_of lines j) j k side u
-rule_is_sound most ds lines j (Split t v) u c = split_is_sound ds lines j t v
-rule_is_sound most ds lines j (Distinct i k) u c = distinct_is_sound ds lines j i k
+rule_is_sound most ds lines j (Split t v) u c = split_is_sound ds lines most j t v
+rule_is_sound most ds lines j (Distinct i k) u c = distinct_is_sound ds lines most j i k
 rule_is_sound most ds lines j (Weaken k) u c = weaken_is_sound ds lines j k
 rule_is_sound most ds lines j (Unfold k) u c = unfold_is_sound ds lines most (variables_of lines j) j k
     (has_variables lines j)

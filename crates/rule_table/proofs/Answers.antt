@@ -1,5 +1,6 @@
 -- A rule's answer is sound where the table's is.
 use Rattle.std.proofs.Common.{ℕ, ◌≡◌, List, false, subst, ap}
+use Rattle.cyc_basics.specs.declared.limits.Limits.{Limits}
 use Rattle.heap_formula.specs.declared.proof_rules.RuleFault.TheVariants.{TooManyAtoms, NoFreshVariable}
 use Rattle.std.specs.Prelude.{Result, Ok, Err, Vec, IfOk}
 use Rattle.std.specs.declared.alloc.Global.{Global}
@@ -21,7 +22,7 @@ sound_answer_all j (Err e) answer is sound = tt
 
 -- ---- the last two faults
 
-pub limited_long : (most : ℕ) (ps : List Premise) → each_heap (is_short most) ps ≡ false
+pub limited_long : (most : Limits) (ps : List Premise) → each_heap (is_short most) ps ≡ false
     → limited most ps ≡ Err TooManyAtoms
 limited_long most ps long = ap (λ b. needs b TooManyAtoms (needs (each_heap has_numbers ps) NoFreshVariable (Ok ps)))
     long

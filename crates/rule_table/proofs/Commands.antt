@@ -7,6 +7,7 @@ use Rattle.std.specs.Ordering.{nat_cmp, eq_by_cmp}
 use Rattle.std.specs.Cmp.{nat_cmp_total}
 use Rattle.std.specs.FinMap.{insert, remove, get-insert, get-remove, get-empty, empty}
 use Rattle.std.proofs.lemmas.Bool.Decides.{Decides-eqb}
+use Rattle.cyc_basics.specs.declared.limits.Limits.{Limits}
 use Rattle.heap_formula.specs.declared.terms.Term.{Term}
 use Rattle.heap_formula.specs.declared.terms.Term.TheVariants.{Nil, Univ, Exist}
 use Rattle.heap_formula.specs.declared.atoms.Pure.{Pure}
@@ -462,7 +463,7 @@ module _ (ds : List Definition) (lines : List Command) (i : ℕ) (a : SymbolicHe
       let b = bound_at lines i (New x k) at in
       exec_new_sound ds lines i a x k n at fields (omega arith) p_below a_below
 
-  command_sound : (most : ℕ) (c : Command) → counted_from_one lines i ≡ Some c → IsCommand c
+  command_sound : (most : Limits) (c : Command) → counted_from_one lines i ≡ Some c → IsCommand c
       → IsSound ds lines (Runs i a) (command_answer most i a n c)
   command_sound most Stop at good = stop_sound at
   command_sound most (Goto j) at good = limited_sound ds lines most (Runs i a) (one (at_line j a a)) (goto_sound j at)
@@ -498,7 +499,7 @@ module _ (ds : List Definition) (lines : List Command) (i : ℕ) (a : SymbolicHe
       })) (free_sound t c at good found))
 
 module _ (ds : List Definition) (lines : List Command) where
-  pub exec_is_sound : (most : ℕ) (j : Judgement) → Each IsCommand lines → IsSound ds lines j (exec_answer most lines j)
+  pub exec_is_sound : (most : Limits) (j : Judgement) → Each IsCommand lines → IsSound ds lines j (exec_answer most lines j)
   exec_is_sound most (Entail a bs) good = tt
   exec_is_sound most (Runs i a) good =
       let n = fresh_number (program_variables lines) (Runs i a) in

@@ -1,8 +1,10 @@
--- A rule has at most sixteen premises where each predicate has at most sixteen cases.
+-- A rule has few premises where each predicate has few cases.
 use Rattle.std.proofs.Common.{◌≡◌, ℕ, zero, suc, ◌+◌, ◌≤◌, Bool, true, false, cond, List, [], ◌∷◌, map, length, Option}
 use Rattle.std.proofs.Common.{Some, None, Ok, Err, subst, arith}
 use Rattle.std.specs.Prelude.{slice_get, nat_eq, max, if◌then◌else◌}
 use Rattle.std.proofs.lemmas.List.{length-map}
+use Rattle.cyc_basics.specs.declared.limits.Limits.{Limits}
+use Rattle.cyc_basics.specs.declared.limits.TheConstants.{MOST_CASES}
 use Rattle.heap_formula.specs.declared.terms.Term.{Term}
 use Rattle.heap_formula.specs.declared.terms.Term.TheVariants.{Nil, Univ, Exist}
 use Rattle.heap_formula.specs.declared.atoms.Pure.{Pure}
@@ -47,7 +49,7 @@ use Rattle.rule_table.specs.RuleBook.{variables_of, rule_answer}
 use Rattle.heap_formula.specs.declared.proof_rules.RuleFault.{RuleFault}
 
 abbrev pub IsFew : Answer → Type 0
-IsFew (Ok ps) = length ps ≤ 16
+IsFew (Ok ps) = length ps ≤ MOST_CASES
 IsFew (Err f) = Unit {0}
 
 needs_few : (b : Bool) (f : RuleFault) (rest : Answer) → IsFew rest → IsFew (needs b f rest)
@@ -59,7 +61,7 @@ finds_few : {X : Type 0} (o : Option X) (f : RuleFault) (rest : X → Answer) �
 finds_few None f rest h = tt
 finds_few (Some x) f rest h = h x
 
-limited_few : (most : ℕ) (ps : List Premise) → length ps ≤ 16 → IsFew (limited most ps)
+limited_few : (most : Limits) (ps : List Premise) → length ps ≤ MOST_CASES → IsFew (limited most ps)
 limited_few most ps h = needs_few (each_heap (is_short most) ps) _ _ (needs_few (each_heap has_numbers ps) _ _ h)
 
 entails_few : (j : Judgement) (rest : SymbolicHeap → List SymbolicHeap → Answer)
@@ -88,7 +90,7 @@ calls_few : (x : Spatial) (rest : ℕ → List Term → Answer) → ((q : ℕ) (
 calls_few (Cell t ts) rest h = tt
 calls_few (Pred q ts) rest h = h q ts
 
-pub few_cases : (ds : List Definition) → Each HasFewCases ds → (q : ℕ) → length (cases_of ds q) ≤ 16
+pub few_cases : (ds : List Definition) → Each HasFewCases ds → (q : ℕ) → length (cases_of ds q) ≤ MOST_CASES
 few_cases [] h q = omega arith
 few_cases (d ∷ ds) h zero = h.0
 few_cases (d ∷ ds) h (suc q) = few_cases ds h.1 q
@@ -102,7 +104,7 @@ side_few p j k x Nil u = tt
 side_few p j k x (Exist n) u = tt
 side_few p j k x (Univ v) u = omega arith
 
-command_few : (most i : ℕ) (a : SymbolicHeap) (n : ℕ) (c : Command) → IsFew (command_answer most i a n c)
+command_few : (most : Limits) (i : ℕ) (a : SymbolicHeap) (n : ℕ) (c : Command) → IsFew (command_answer most i a n c)
 command_few most i a n Stop = omega arith
 command_few most i a n (Goto j) = limited_few most (one (at_line j a a)) (omega arith)
 command_few most i a n (IfEq t u j) =
@@ -146,20 +148,20 @@ atom_few p j k side (Eq t u) =
     (rewrite_side p j k (Eq t u) (named side t u) (unnamed side t u)) (omega arith)
     (side_few p j k (Eq t u) (named side t u) (unnamed side t u))
 
-pub rule_few : (most : ℕ) (ds : List Definition) (lines : List Command) → Each HasFewCases ds
+pub rule_few : (most : Limits) (ds : List Definition) (lines : List Command) → Each HasFewCases ds
     → (j : Judgement) (rule : Rule) → IsFew (rule_answer most ds lines j rule)
 rule_few most ds lines h j Absurd = needs_few (is_absurd (antecedent j)) NotAbsurd (Ok []) (omega arith)
 rule_few most ds lines h j (Rewrite k side) =
     finds_few (slice_get (antecedent j).pure k) NoSuchAtom (rewrite_atom (variables_of lines j) j k side)
     (atom_few (variables_of lines j) j k side)
-rule_few most ds lines h j (Split t u) = limited_few 32 (two (with_pure j (Eq t u)) (with_pure j (Neq t u)))
+rule_few most ds lines h j (Split t u) = limited_few most (two (with_pure j (Eq t u)) (with_pure j (Neq t u)))
     (omega arith)
 rule_few most ds lines h j (Distinct i k) =
     finds_few (slice_get (antecedent j).spatial i) NoSuchAtom _ (λ x.
     finds_few (slice_get (antecedent j).spatial k) NoSuchAtom _ (λ y.
     finds_few (address_of x) NoCell _ (λ t.
     finds_few (address_of y) NoCell _ (λ u.
-    limited_few 32 (one (with_pure j (Neq t (if nat_eq i k then Nil else u)))) (omega arith)))))
+    limited_few most (one (with_pure j (Neq t (if nat_eq i k then Nil else u)))) (omega arith)))))
 rule_few most ds lines h j (Weaken k) = finds_few (slice_get (antecedent j).pure k) NoSuchAtom _ (λ x. omega arith)
 rule_few most ds lines h j (Unfold k) =
     finds_few (slice_get (antecedent j).spatial k) NoSuchAtom _ (λ x.
@@ -208,6 +210,6 @@ rule_few most ds lines h j (Drop k) = runs_few j _
     (λ i a. finds_few (slice_get a.spatial k) NoSuchAtom _ (λ x. omega arith))
 
 -- the premises that the table gives are few
-pub premises_few : (answer : Answer) (ps : List Premise) → IsFew answer → answer ≡ Ok ps → length ps ≤ 16
-premises_few (Ok qs) ps h e = let same : qs ≡ ps = cc in subst (λ (xs : List Premise). length xs ≤ 16) same h
+pub premises_few : (answer : Answer) (ps : List Premise) → IsFew answer → answer ≡ Ok ps → length ps ≤ MOST_CASES
+premises_few (Ok qs) ps h e = let same : qs ≡ ps = cc in subst (λ (xs : List Premise). length xs ≤ MOST_CASES) same h
 premises_few (Err f) ps h e = absurd cc

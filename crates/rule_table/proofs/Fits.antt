@@ -2,6 +2,7 @@
 use Rattle.std.proofs.Common.{◌≡◌, ℕ, zero, suc, ◌+◌, Bool, true, false, List, [], ◌∷◌, ◌++◌, map, length, Option, Some}
 use Rattle.std.proofs.Common.{None, refl, sym, ap, ◌∙◌, subst, arith}
 use Rattle.std.specs.Prelude.{slice_get, slice_set}
+use Rattle.cyc_basics.specs.declared.limits.Limits.{Limits}
 use Rattle.heap_formula.specs.declared.terms.Term.{Term}
 use Rattle.heap_formula.specs.declared.atoms.Spatial.{Spatial}
 use Rattle.heap_formula.specs.declared.atoms.Spatial.TheVariants.{Cell, Pred}
@@ -33,7 +34,7 @@ module _ (P : Premise → Type 0) where
   finds_on None f rest g = tt
   finds_on (Some x) f rest g = g x refl
 
-  pub limited_on : (most : ℕ) (ps : List Premise) → Each P ps → OnPremises P (limited most ps)
+  pub limited_on : (most : Limits) (ps : List Premise) → Each P ps → OnPremises P (limited most ps)
   limited_on most ps all = needs_on (each_heap (is_short most) ps) TooManyAtoms _
       (λ _. needs_on (each_heap has_numbers ps) NoFreshVariable _ (λ _. all))
 

@@ -2,6 +2,7 @@
 use Rattle.std.proofs.Common.{◌≡◌, ℕ, zero, suc, ◌+◌, ◌-◌, max, Bool, true, false, cond, List, [], ◌∷◌, map, length}
 use Rattle.std.proofs.Common.{Some, subst}
 use Rattle.std.specs.Prelude.{Ok, Err, slice_get, slice_set, nat_eq, nat_le, if◌then◌else◌, slice_index_or}
+use Rattle.cyc_basics.specs.declared.limits.Limits.{Limits}
 use Rattle.heap_formula.specs.declared.terms.Term.{Term}
 use Rattle.heap_formula.specs.declared.terms.Term.TheVariants.{Nil, Univ, Exist}
 use Rattle.heap_formula.specs.declared.atoms.Pure.{Pure}
@@ -172,7 +173,7 @@ unfold_cases_universal j k ts n (c ∷ cs) h q = (
   unfold_cases_universal j k ts n cs h q,
 )
 
-unfold_universal : (most : ℕ) (ds : List Definition) (p : ℕ) (j : Judgement) (k : ℕ) (x : Spatial)
+unfold_universal : (most : Limits) (ds : List Definition) (p : ℕ) (j : Judgement) (k : ℕ) (x : Spatial)
     → IsUniversalHeap (antecedent j) → InSpatial IsUniversal x
     → OnPremises IsUniversalPremise (calls x (λ q ts. limited most
     (map (unfold_premise j k ts (fresh_number p j)) (cases_of ds q))))
@@ -225,7 +226,7 @@ module _ (i : ℕ) (a : SymbolicHeap) (n : ℕ) (h : IsUniversalHeap a) where
   cell_universal t c found = each_at (InSpatial IsUniversal) a.spatial c.place (Cell c.address c.fields)
       (found_is a.pure t a.spatial c found).at h.1
 
-  command_universal : (most : ℕ) (c : Command) → IsCommand c
+  command_universal : (most : Limits) (c : Command) → IsCommand c
       → OnPremises IsUniversalPremise (command_answer most i a n c)
   command_universal most Stop good = tt
   command_universal most (Goto j) good = limited_on IsUniversalPremise most (one (at_line j a a)) (h, tt)
@@ -298,7 +299,7 @@ lift j (Ok ps) a h = all ps a
     all [] b = tt
     all (p ∷ ps) b = (b.0 h, all ps b.1)
 
-exec_keeps : (most : ℕ) (lines : List Command) (j : Judgement) → IsUniversalHeap (antecedent j) → Each IsCommand lines
+exec_keeps : (most : Limits) (lines : List Command) (j : Judgement) → IsUniversalHeap (antecedent j) → Each IsCommand lines
     → OnPremises IsUniversalPremise (exec_answer most lines j)
 exec_keeps most lines (Entail a bs) h c = tt
 exec_keeps most lines (Runs i a) h c =
@@ -306,7 +307,7 @@ exec_keeps most lines (Runs i a) h c =
     (λ x at. command_universal i a (fresh_number (program_variables lines) (Runs i a)) h most x
     (counted_each IsCommand lines i x at c))
 
-right_universal : (most : ℕ) (ds : List Definition) (a b : SymbolicHeap) (k c : ℕ) (x : Spatial)
+right_universal : (most : Limits) (ds : List Definition) (a b : SymbolicHeap) (k c : ℕ) (x : Spatial)
     → OnPremises (P (Entail a (b ∷ []))) (calls x (λ q ts. finds (slice_get (cases_of ds q) c) NoSuchCase
     (λ case. limited most (one (with_right a (unfolded b k (in_heap (right_term ts (heap_exists b)) case) ∷ []))))))
 right_universal most ds a b k c (Cell t ts) = tt
@@ -315,7 +316,7 @@ right_universal most ds a b k c (Pred q ts) =
     limited_on (P (Entail a (b ∷ []))) most (one (with_right a
     (unfolded b k (in_heap (right_term ts (heap_exists b)) case) ∷ []))) (λ u. u, tt))
 
-pub rule_keeps : (most : ℕ) (ds : List Definition) (lines : List Command) (j : Judgement) (rule : Rule)
+pub rule_keeps : (most : Limits) (ds : List Definition) (lines : List Command) (j : Judgement) (rule : Rule)
     → IsUniversalHeap (antecedent j) → Each IsCommand lines → HasUniversalTerms rule
     → OnPremises IsUniversalPremise (rule_answer most ds lines j rule)
 rule_keeps most ds lines j Absurd h c r = needs_on IsUniversalPremise (is_absurd (antecedent j)) NotAbsurd (Ok [])
@@ -325,7 +326,7 @@ rule_keeps most ds lines j (Rewrite k side) h c r =
     (λ x at. rewrite_universal (variables_of lines j) j k side x h
     (each_at (InPure IsUniversal) (antecedent j).pure k x at h.0))
 rule_keeps most ds lines j (Split t u) h c r =
-    limited_on IsUniversalPremise 32 (two (with_pure j (Eq t u)) (with_pure j (Neq t u)))
+    limited_on IsUniversalPremise most (two (with_pure j (Eq t u)) (with_pure j (Neq t u)))
     (pure_universal j (Eq t u) h r, (pure_universal j (Neq t u) h r, tt))
 rule_keeps most ds lines j (Distinct i k) h c r =
     finds_on IsUniversalPremise (slice_get (antecedent j).spatial i) NoSuchAtom _ (λ x at_i.
@@ -334,7 +335,7 @@ rule_keeps most ds lines j (Distinct i k) h c r =
     finds_on IsUniversalPremise (address_of y) NoCell _ (λ u is_u.
     let ut = address_universal x t is_t (each_at (InSpatial IsUniversal) (antecedent j).spatial i x at_i h.1) in
     let uu = address_universal y u is_u (each_at (InSpatial IsUniversal) (antecedent j).spatial k y at_k h.1) in
-    limited_on IsUniversalPremise 32 (one (with_pure j (Neq t (if nat_eq i k then Nil else u)))) (
+    limited_on IsUniversalPremise most (one (with_pure j (Neq t (if nat_eq i k then Nil else u)))) (
       pure_universal j (Neq t (if nat_eq i k then Nil else u)) h (ut, universal_choice (nat_eq i k) Nil u tt uu),
       tt,
     )))))

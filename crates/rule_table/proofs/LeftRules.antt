@@ -3,6 +3,7 @@ use Rattle.std.proofs.Common.{◌≡◌, ℕ, ◌≤◌, max, Bool, true, false,
 use Rattle.std.proofs.Common.{sym, ap, ◌∙◌, arith}
 use Rattle.std.specs.Prelude.{Ok, slice_get, slice_set, slice_index, nat_eq, nat_le, if◌then◌else◌}
 use Rattle.std.proofs.lemmas.Bool.Decides.{Decides-eqb}
+use Rattle.cyc_basics.specs.declared.limits.Limits.{Limits}
 use Rattle.heap_formula.specs.declared.terms.Term.{Term}
 use Rattle.heap_formula.specs.declared.terms.Term.TheVariants.{Nil, Univ, Exist}
 use Rattle.heap_formula.specs.declared.atoms.Pure.{Pure}
@@ -64,8 +65,8 @@ module _ (ds : List Definition) (lines : List Command) where
   weaken_is_sound j k =
       finds_sound ds lines j (slice_get (antecedent j).pure k) NoSuchAtom _ (λ x at. weaken_sound ds lines j k)
 
-  pub split_is_sound : (j : Judgement) (t u : Term) → IsSound ds lines j (split_answer j t u)
-  split_is_sound j t u = limited_sound ds lines 32 j (two (with_pure j (Eq t u)) (with_pure j (Neq t u)))
+  pub split_is_sound : (most : Limits) (j : Judgement) (t u : Term) → IsSound ds lines j (split_answer most j t u)
+  split_is_sound most j t u = limited_sound ds lines most j (two (with_pure j (Eq t u)) (with_pure j (Neq t u)))
       (split_sound ds lines j t u)
 
   -- one more pure atom that holds
@@ -93,13 +94,13 @@ module _ (ds : List Definition) (lines : List Command) where
   cell_of_address (Cell v ts) t e = let same : v ≡ t = cc in (ts, λ i. Cell (same i) ts)
   cell_of_address (Pred q ts) t e = cc
 
-  pub distinct_is_sound : (j : Judgement) (i k : ℕ) → IsSound ds lines j (distinct_answer j i k)
-  distinct_is_sound j i k =
+  pub distinct_is_sound : (most : Limits) (j : Judgement) (i k : ℕ) → IsSound ds lines j (distinct_answer most j i k)
+  distinct_is_sound most j i k =
       finds_sound ds lines j (slice_get (antecedent j).spatial i) NoSuchAtom _ (λ x at_i.
       finds_sound ds lines j (slice_get (antecedent j).spatial k) NoSuchAtom _ (λ y at_k.
       finds_sound ds lines j (address_of x) NoCell _ (λ t is_t.
       finds_sound ds lines j (address_of y) NoCell _ (λ u is_u.
-      limited_sound ds lines 32 j (one (with_pure j (Neq t (if nat_eq i k then Nil else u))))
+      limited_sound ds lines most j (one (with_pure j (Neq t (if nat_eq i k then Nil else u))))
       (by_pure j (Neq t (if nat_eq i k then Nil else u)) (
       let c = cell_of_address x t is_t in
       let d = cell_of_address y u is_u in
@@ -191,7 +192,7 @@ module _ (ds : List Definition) (lines : List Command) where
 
   -- ---- Unfold, Cut, Drop
 
-  unfold_call_sound : (most p : ℕ) (j : Judgement) (k : ℕ) (x : Spatial) → HasVariables lines p j
+  unfold_call_sound : (most : Limits) (p : ℕ) (j : Judgement) (k : ℕ) (x : Spatial) → HasVariables lines p j
       → slice_get (antecedent j).spatial k ≡ Some x → IsSound ds lines j
       (calls x (λ q ts. limited most (map (unfold_premise j k ts (fresh_number p j)) (cases_of ds q))))
   unfold_call_sound most p j k (Cell t ts) v at = tt
@@ -199,13 +200,13 @@ module _ (ds : List Definition) (lines : List Command) where
       limited_sound ds lines most j (map (unfold_premise j k ts (fresh_number p j)) (cases_of ds q))
       (unfold_sound ds lines j k q ts (fresh_number p j) at (is_fresh lines p (fresh_number p j) j v (omega arith)))
 
-  pub unfold_is_sound : (most p : ℕ) (j : Judgement) (k : ℕ) → HasVariables lines p j
+  pub unfold_is_sound : (most : Limits) (p : ℕ) (j : Judgement) (k : ℕ) → HasVariables lines p j
       → IsSound ds lines j (unfold_answer most ds p j k)
   unfold_is_sound most p j k v =
       finds_sound ds lines j (slice_get (antecedent j).spatial k) NoSuchAtom _
       (λ x at. unfold_call_sound most p j k x v at)
 
-  pub cut_is_sound : (most p : ℕ) (j : Judgement) (places : List ℕ) (f : SymbolicHeap) → HasVariables lines p j
+  pub cut_is_sound : (most : Limits) (p : ℕ) (j : Judgement) (places : List ℕ) (f : SymbolicHeap) → HasVariables lines p j
       → IsSound ds lines j (cut_answer most p j places f)
   cut_is_sound most p j places f v =
       needs_sound ds lines j (ascend_from 0 (length (antecedent j).spatial) places) NoSuchAtom _ (λ _.

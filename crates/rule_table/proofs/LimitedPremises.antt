@@ -2,6 +2,7 @@
 use Rattle.std.proofs.Common.{◌≡◌, ℕ, Bool, true, false, ◌&&◌, List, refl, sym, subst}
 use Rattle.std.specs.Prelude.{Result, Ok, Vec}
 use Rattle.std.specs.declared.alloc.Global.{Global}
+use Rattle.cyc_basics.specs.declared.limits.Limits.{Limits}
 use Rattle.heap_formula.specs.declared.judgements.Judgement.{Judgement}
 use Rattle.heap_formula.specs.declared.judgements.Judgement.TheVariants.{Entail, Term as Runs}
 use Rattle.heap_formula.specs.declared.judgements.Premise.{Premise}
@@ -19,7 +20,7 @@ and_assoc true q r = refl
 and_assoc false q r = refl
 
 -- the heaps of a judgement with another antecedent
-pub heaps_short : (most : ℕ) (j : Judgement) (a : SymbolicHeap)
+pub heaps_short : (most : Limits) (j : Judgement) (a : SymbolicHeap)
     → list_all (is_short most) (heaps_of (with_antecedent j a))
     ≡ is_short most a && list_all (is_short most) (disjuncts j)
 heaps_short most (Entail b bs) a = refl
@@ -36,7 +37,7 @@ any_first (Entail d bs) b e = (and_parts (has_numbers b) (list_all has_numbers b
 any_first (Runs n d) b e = (and_parts (has_numbers b) true e).0
 
 -- the answer from premises as the program makes them
-pub limited_changed : (most : ℕ) (r : Result (Vec Premise Global) RuleError) (ps qs xs : List Premise) → xs ≡ qs
+pub limited_changed : (most : Limits) (r : Result (Vec Premise Global) RuleError) (ps qs xs : List Premise) → xs ≡ qs
     → each_heap (is_short most) ps ≡ true → each_heap has_numbers qs ≡ each_heap has_numbers ps
     → (each_heap has_numbers ps ≡ true → qs ≡ ps) → IsAnswer r
     (needs (each_heap has_numbers xs) NoFreshVariable (Ok xs)) → IsAnswer r (limited most ps)

@@ -4,6 +4,7 @@ use Rattle.std.proofs.Common.{Some, refl, sym, ap, ◌∙◌, subst, inl, inr}
 use Rattle.std.specs.Prelude.{slice_get, slice_index, nat_eq}
 use Rattle.std.proofs.lemmas.Bool.Decides.{Decides-eqb}
 use Rattle.std.proofs.Math.ListN.{get_or-map}
+use Rattle.cyc_basics.specs.declared.limits.Limits.{Limits}
 use Rattle.heap_formula.specs.declared.terms.Term.{Term}
 use Rattle.heap_formula.specs.declared.terms.Term.TheVariants.{Nil, Univ, Exist}
 use Rattle.heap_formula.specs.declared.atoms.Pure.{Pure}
@@ -207,7 +208,7 @@ module _ (ds : List Definition) (lines : List Command) where
       let m = one_stage ds s e b.spatial h whole in
       inl (λ _. m.0, (e, (each_front (PureHolds s e) b.pure body.pure w.1.1.0, m.1))))
 
-  unfold_right_call_sound : (most : ℕ) (a b : SymbolicHeap) (k c : ℕ) (x : Spatial) → slice_get b.spatial k ≡ Some x
+  unfold_right_call_sound : (most : Limits) (a b : SymbolicHeap) (k c : ℕ) (x : Spatial) → slice_get b.spatial k ≡ Some x
       → IsSound ds lines (Entail a (b ∷ [])) (calls x (λ q ts.
       finds (slice_get (cases_of ds q) c) NoSuchCase (λ case.
       limited most (one (with_right a (unfolded b k (in_heap (right_term ts (heap_exists b)) case) ∷ []))))))
@@ -218,7 +219,7 @@ module _ (ds : List Definition) (lines : List Command) where
       (one (with_right a (unfolded b k (in_heap (right_term ts (heap_exists b)) case) ∷ [])))
       (unfold_right_sound a b k c q ts case (heap_exists b) at at_c))
 
-  pub unfold_right_is_sound : (most : ℕ) (j : Judgement) (k c : ℕ)
+  pub unfold_right_is_sound : (most : Limits) (j : Judgement) (k c : ℕ)
       → IsSound ds lines j (unfold_right_answer most ds j k c)
   unfold_right_is_sound most j k c =
       single_sound ds lines j _ (λ a b.

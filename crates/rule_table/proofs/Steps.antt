@@ -1,5 +1,6 @@
 -- A rule is sound where what follows each of its tests is.
 use Rattle.std.proofs.Common.{◌≡◌, ℕ, Bool, true, false, List, [], ◌∷◌, Option, Some, None, refl}
+use Rattle.cyc_basics.specs.declared.limits.Limits.{Limits}
 use Rattle.heap_formula.specs.declared.commands.Command.{Command}
 use Rattle.heap_formula.specs.declared.judgements.Judgement.{Judgement}
 use Rattle.heap_formula.specs.declared.judgements.Judgement.TheVariants.{Entail, Term as Runs}
@@ -24,7 +25,7 @@ module _ (ds : List Definition) (lines : List Command) where
   finds_sound j None f rest g = tt
   finds_sound j (Some x) f rest g = g x refl
 
-  pub limited_sound : (most : ℕ) (j : Judgement) (ps : List Premise) → IsLocallySound ds lines j ps
+  pub limited_sound : (most : Limits) (j : Judgement) (ps : List Premise) → IsLocallySound ds lines j ps
       → IsSound ds lines j (limited most ps)
   limited_sound most j ps sound =
       needs_sound j (each_heap (is_short most) ps) TooManyAtoms _

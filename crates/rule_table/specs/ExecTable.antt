@@ -1,5 +1,6 @@
 -- Exec: the first fault, or the premises with their trace pairs.
 use Rattle.std.specs.Prelude.{ℕ, suc, ◌+◌, ◌-◌, List, [], ◌∷◌, ◌++◌, cond, Option, Some, None, Ok, slice_set}
+use Rattle.cyc_basics.specs.declared.limits.Limits.{Limits}
 use Rattle.heap_formula.specs.declared.terms.Term.{Term}
 use Rattle.heap_formula.specs.declared.terms.Term.TheVariants.{Univ}
 use Rattle.heap_formula.specs.declared.atoms.Pure.{Pure}
@@ -66,7 +67,7 @@ abbrev pub at_line : ℕ → SymbolicHeap → SymbolicHeap → Premise
 at_line i a b = record { judgement = Runs i b; pairs = same_pairs a.spatial }
 
 -- the command at line i, from a, n being fresh
-abbrev pub command_answer : ℕ → ℕ → SymbolicHeap → ℕ → Command → Answer
+abbrev pub command_answer : Limits → ℕ → SymbolicHeap → ℕ → Command → Answer
 command_answer most i a n Stop = Ok []
 command_answer most i a n (IfAny j) = limited most (two (at_line j a a) (at_line (i + 1) a a))
 command_answer most i a n (Goto j) = limited most (one (at_line j a a))
@@ -94,7 +95,7 @@ command_answer most i a n (Free t) =
     })))
 
 -- the caller has a line of the program: the fault where there is none is never met
-abbrev pub exec_answer : ℕ → List Command → Judgement → Answer
+abbrev pub exec_answer : Limits → List Command → Judgement → Answer
 exec_answer most lines j =
     runs j (λ i a.
     finds (counted_from_one lines i) WrongJudgement (λ c.

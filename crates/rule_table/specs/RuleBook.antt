@@ -1,5 +1,6 @@
 -- The whole table.
 use Rattle.std.specs.Prelude.{ℕ, List}
+use Rattle.cyc_basics.specs.declared.limits.Limits.{Limits}
 use Rattle.heap_formula.specs.declared.commands.Command.{Command}
 use Rattle.heap_formula.specs.declared.judgements.Judgement.{Judgement}
 use Rattle.heap_formula.specs.declared.judgements.Judgement.TheVariants.{Entail, Term as Runs}
@@ -20,12 +21,12 @@ abbrev pub variables_of : List Command → Judgement → ℕ
 variables_of lines (Entail a bs) = 0
 variables_of lines (Runs i a) = program_variables lines
 
--- the answer of each rule; `most` is the greatest number of spatial atoms of a heap, 16 or 32 by the format's version
-abbrev pub rule_answer : ℕ → List Definition → List Command → Judgement → Rule → Answer
+-- the answer of each rule; `most` are the limits of the format's version
+abbrev pub rule_answer : Limits → List Definition → List Command → Judgement → Rule → Answer
 rule_answer most ds lines j Absurd = absurd_answer j
 rule_answer most ds lines j (Rewrite k side) = rewrite_answer (variables_of lines j) j k side
-rule_answer most ds lines j (Split t u) = split_answer j t u
-rule_answer most ds lines j (Distinct i k) = distinct_answer j i k
+rule_answer most ds lines j (Split t u) = split_answer most j t u
+rule_answer most ds lines j (Distinct i k) = distinct_answer most j i k
 rule_answer most ds lines j (Weaken k) = weaken_answer j k
 rule_answer most ds lines j (Unfold k) = unfold_answer most ds (variables_of lines j) j k
 rule_answer most ds lines j (Cut places f) = cut_answer most (variables_of lines j) j places f

@@ -1,7 +1,7 @@
 -- The rules but Exec: the first fault, or the premises with their trace pairs.
 use Rattle.std.specs.Prelude.{ℕ, ◌+◌, max, List, [], ◌∷◌, ◌++◌, map, length, nat_eq, nat_le, if◌then◌else◌, Ok, Err}
 use Rattle.std.specs.Prelude.{slice_get, slice_set, slice_index_or}
-use Rattle.cyc_basics.specs.declared.limits.TheConstants.{MOST_SPATIAL}
+use Rattle.cyc_basics.specs.declared.limits.Limits.{Limits}
 use Rattle.heap_formula.specs.declared.terms.Term.{Term}
 use Rattle.heap_formula.specs.declared.terms.Term.TheVariants.{Nil, Univ, Exist}
 use Rattle.heap_formula.specs.declared.atoms.Pure.{Pure}
@@ -106,18 +106,18 @@ rewrite_atom p j k side (Eq t u) =
 abbrev pub rewrite_answer : ℕ → Judgement → ℕ → Side → Answer
 rewrite_answer p j k side = finds (slice_get (antecedent j).pure k) NoSuchAtom (rewrite_atom p j k side)
 
--- Split: `t = u` is appended, and `t != u`; no spatial atom comes in, so the limit is what any version allows
-abbrev pub split_answer : Judgement → Term → Term → Answer
-split_answer j t u = limited MOST_SPATIAL (two (with_pure j (Eq t u)) (with_pure j (Neq t u)))
+-- Split: `t = u` is appended, and `t != u`
+abbrev pub split_answer : Limits → Judgement → Term → Term → Answer
+split_answer most j t u = limited most (two (with_pure j (Eq t u)) (with_pure j (Neq t u)))
 
 -- Distinct i k: cells i and k have different addresses; where i is k, its address is not `nil`
-abbrev pub distinct_answer : Judgement → ℕ → ℕ → Answer
-distinct_answer j i k =
+abbrev pub distinct_answer : Limits → Judgement → ℕ → ℕ → Answer
+distinct_answer most j i k =
     finds (slice_get (antecedent j).spatial i) NoSuchAtom (λ x.
     finds (slice_get (antecedent j).spatial k) NoSuchAtom (λ y.
     finds (address_of x) NoCell (λ t.
     finds (address_of y) NoCell (λ u.
-    limited MOST_SPATIAL (one (with_pure j (Neq t (if nat_eq i k then Nil else u))))))))
+    limited most (one (with_pure j (Neq t (if nat_eq i k then Nil else u))))))))
 
 -- Weaken k: pure atom k is dropped
 abbrev pub weaken_answer : Judgement → ℕ → Answer
@@ -130,13 +130,13 @@ calls (Cell t ts) rest = Err NoSuchAtom
 calls (Pred q ts) rest = rest q ts
 
 -- Unfold k: one premise for each case of the predicate at spatial atom k of the antecedent
-abbrev pub unfold_answer : ℕ → List Definition → ℕ → Judgement → ℕ → Answer
+abbrev pub unfold_answer : Limits → List Definition → ℕ → Judgement → ℕ → Answer
 unfold_answer most ds p j k =
     finds (slice_get (antecedent j).spatial k) NoSuchAtom (λ x.
     calls x (λ q ts. limited most (map (unfold_premise j k ts (fresh_number p j)) (cases_of ds q))))
 
 -- Cut: the atoms at the places, which ascend strictly, entail f, and f stands in their place
-abbrev pub cut_answer : ℕ → ℕ → Judgement → List ℕ → SymbolicHeap → Answer
+abbrev pub cut_answer : Limits → ℕ → Judgement → List ℕ → SymbolicHeap → Answer
 cut_answer most p j places f =
     needs (ascend_from 0 (length (antecedent j).spatial) places) NoSuchAtom
     (limited most (two (cut_left (antecedent j) (has_number places) f)
@@ -203,7 +203,7 @@ right_term args e (Univ i) = slice_index_or args i Nil
 right_term args e (Exist i) = Exist (e + i)
 
 -- UnfoldRight k c: case c of the predicate at spatial atom k of the right side, with fresh existentials
-abbrev pub unfold_right_answer : ℕ → List Definition → Judgement → ℕ → ℕ → Answer
+abbrev pub unfold_right_answer : Limits → List Definition → Judgement → ℕ → ℕ → Answer
 unfold_right_answer most ds j k c =
     single j (λ a b.
     finds (slice_get b.spatial k) NoSuchAtom (λ x.

@@ -1,5 +1,6 @@
 // Laws of the table. Each function is a law, and does nothing.
 ghost use Rattle.std.specs.Prelude.{◌≡◌, ℕ, List, None, [], ◌∷◌};
+ghost use Rattle.cyc_basics.specs.declared.limits.Limits.{Limits};
 ghost use Rattle.heap_formula.specs.Closedness.{IsUniversalHeap};
 ghost use Rattle.heap_formula.specs.Definitions.{Definition};
 ghost use Rattle.heap_formula.specs.Judgements.{IsLocallySound, antecedent};
@@ -15,7 +16,7 @@ ghost use Rattle.rule_table.specs.Soundness.{IsSound, IsCommand, AreUniversal, H
 /// Every rule is locally sound where no existential stands in the antecedent, and the program's commands are as
 /// programs have them.
 pub fn rules_are_sound()
-    ensures { (most : ℕ) (ds : List Definition) (lines : List Command) (j : Judgement) (rule : Rule)
+    ensures { (most : Limits) (ds : List Definition) (lines : List Command) (j : Judgement) (rule : Rule)
         → IsUniversalHeap (antecedent j) → Each IsCommand lines
         → IsSound ds lines j (rule_answer most ds lines j rule) }
 {}

@@ -1,5 +1,5 @@
 // The limits that premises keep.
-ghost use Rattle.std.specs.Prelude.{◌≡◌, ◌≤◌, ◌<◌, true, ◌&&◌, length};
+ghost use Rattle.std.specs.Prelude.{◌≡◌, ◌≤◌, ◌<◌, true, ◌&&◌, length, nat_lt, nat_le};
 ghost use Rattle.std.specs.List.{list_all};
 ghost use Rattle.heap_formula.specs.Fresh.{fresh_number};
 ghost use Rattle.heap_formula.specs.declared.proof_rules.RuleFault.TheVariants.{NoFreshVariable};
@@ -9,7 +9,7 @@ ghost use Rattle.rule_table.specs.Table.{with_pure};
 ghost use Rattle.heap_formula.specs.Judgements.{antecedent};
 ghost use Rattle.heap_formula.specs.declared.atoms.Pure.{Pure};
 
-use cyc_basics::limits::{MOST_PURE, MOST_SPATIAL, VARIABLE_NUMBERS};
+use cyc_basics::limits::{Limits, VARIABLE_NUMBERS};
 use heap_formula::{
     Heap, Judgement, Premise, RuleError, RuleFault, Variables, bound_in_heap, bound_of_judgement,
 };
@@ -62,15 +62,15 @@ pub fn numbered(premises: Vec<Premise>) -> Result<Vec<Premise>, RuleError>
     }
 }
 
-/// Whether the heap has at most `most` spatial atoms, and at most 64 pure ones.
-pub fn is_short(most: u8, heap: &Heap) -> bool
+/// Whether the heap has no more pure and spatial atoms than `most` allows.
+pub fn is_short(most: Limits, heap: &Heap) -> bool
     ensures { result ≡ short most heap.now }
 {
-    heap.pure().len() <= MOST_PURE && heap.spatial().len() <= most as usize
+    heap.pure().len() <= most.pure as usize && heap.spatial().len() <= most.spatial as usize
 }
 
-/// Whether each heap has at most `most` spatial atoms, and at most 64 pure ones.
-pub fn are_short(most: u8, heaps: &[Heap]) -> bool
+/// Whether each heap has no more atoms than `most` allows.
+pub fn are_short(most: Limits, heaps: &[Heap]) -> bool
     ensures { result ≡ list_all (short most) heaps.now }
 {
     for heap in heaps {
@@ -81,8 +81,8 @@ pub fn are_short(most: u8, heaps: &[Heap]) -> bool
     true
 }
 
-/// Whether each disjunct has at most `most` spatial atoms.
-pub fn are_disjuncts_short(most: u8, judgement: &Judgement) -> bool
+/// Whether each disjunct has no more atoms than `most` allows.
+pub fn are_disjuncts_short(most: Limits, judgement: &Judgement) -> bool
     ensures { result ≡ list_all (short most) (disjuncts judgement.now) }
 {
     match judgement {
@@ -91,17 +91,21 @@ pub fn are_disjuncts_short(most: u8, judgement: &Judgement) -> bool
     }
 }
 
+/// Whether the heap with one more pure atom has no more atoms than `most` allows.
+fn has_room_in(heap: &Heap, most: Limits) -> bool
+    ensures { result ≡ nat_lt (length heap.now.pure) most.pure && nat_le (length heap.now.spatial) most.spatial }
+{
+    heap.pure().len() < most.pure as usize && heap.spatial().len() <= most.spatial as usize
+}
+
 /// Whether one more pure atom on the left keeps the limits.
-pub fn has_room(judgement: &Judgement) -> bool
-    ensures each { (x : Pure) → result
-        ≡ list_all (short MOST_SPATIAL) (heaps_of (with_pure judgement.now x).judgement) }
-    ensures room { result ≡ true → length (antecedent judgement.now).pure < MOST_PURE }
+pub fn has_room(judgement: &Judgement, most: Limits) -> bool
+    ensures each { (x : Pure) → result ≡ list_all (short most) (heaps_of (with_pure judgement.now x).judgement) }
+    ensures room { result ≡ true → length (antecedent judgement.now).pure < most.pure }
 {
     match judgement {
-        Judgement::Entail(a, bs) => a.pure().len() < MOST_PURE
-            && a.spatial().len() <= MOST_SPATIAL
-            && are_short(32, bs.heaps()),
-        Judgement::Term(_, a) => a.pure().len() < MOST_PURE && a.spatial().len() <= MOST_SPATIAL,
+        Judgement::Entail(a, bs) => has_room_in(a, most) && are_short(most, bs.heaps()),
+        Judgement::Term(_, a) => has_room_in(a, most),
     }
 }
 

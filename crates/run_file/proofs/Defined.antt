@@ -7,6 +7,7 @@ use Rattle.std.specs.List.{list_any}
 use Rattle.std.specs.Str.{bytes_eq, chars, is_utf8}
 use Rattle.std.proofs.lemmas.Bool.{false≢true}
 use Rattle.std.proofs.lemmas.List.{length-map}
+use Rattle.cyc_basics.specs.declared.limits.Limits.{Limits}
 use Rattle.heap_formula.specs.declared.atoms.Spatial.{Spatial as SpatialAtom}
 use Rattle.heap_formula.specs.declared.atoms.Spatial.TheVariants.{Cell, Pred}
 use Rattle.heap_formula.specs.Definitions.{Definition as DefinitionValue}
@@ -41,7 +42,7 @@ use Rattle.heap_reader.proofs.ValuesAgain.{found_place, definitions_fit}
 use Rattle.cyc_basics.proofs.Places.{get_map}
 use Rattle.run_file.specs.declared.file.RunFile.{RunFile}
 use Rattle.run_file.specs.Grammar.{state_claimed, claim, body, run}
-use Rattle.run_file.specs.Flaws.{from_place}
+use Rattle.run_file.specs.Flaws.{allowed, from_place}
 use Rattle.run_file.proofs.Parts.{faultless}
 use Rattle.run_file.proofs.RunsAgain.{tree_of_run}
 
@@ -84,14 +85,14 @@ then_none a b e f = rw e f
 
 -- ---- uses
 
-module _ (ds : List DefinitionValue) where
+module _ (most : Limits) (ds : List DefinitionValue) where
   abbrev trees : List Definition
   trees = map (definition_tree ds) ds
 
   abbrev hs : List Heading
   hs = headings trees
 
-  module _ (none : listed_flaw (definition_flaw 32 hs) definition_span 0 4 trees ≡ None) where
+  module _ (none : listed_flaw (definition_flaw most hs) definition_span 0 4 trees ≡ None) where
     use_defined : (p n k : ℕ) → is_free_name reserved (name_of ds p) ≡ true
         → use_flaw (arity_in hs (name_of ds p)) n k ≡ None → arity_fault (slice_get ds p) n ≡ None
     use_defined p n k free e =
@@ -100,30 +101,30 @@ module _ (ds : List DefinitionValue) where
         let known = get_map heading trees p (definition_tree ds d.0) there in
         let arity = λ (h : Heading). h.arity in
         let found : arity_in hs (name_of ds p) ≡ Some d.0.arity = arity_placed hs (name_of ds p)
-        ∙ ap (λ i. option_map arity (slice_get hs i)) (found_place 32 ds none p free) ∙ ap (option_map arity) known
+        ∙ ap (λ i. option_map arity (slice_get hs i)) (found_place most ds none p free) ∙ ap (option_map arity) known
         in
         ap (λ o. arity_fault o n) d.1 ∙ same_arity n d.0.arity k (subst (λ o. use_flaw o n k ≡ None) found e)
 
     module _ (universal : Bool) (scope : Scope) where
       spatial_defined : (n k : ℕ) (x : SpatialAtom) → (spatial (terms universal)).fits (spatial_tree ds x)
-          → spatial_flaw (term_flaw scope) term_span 32 hs n k (spatial_tree ds x) ≡ None → use_fault ds x ≡ None
+          → spatial_flaw (term_flaw scope) term_span most hs n k (spatial_tree ds x) ≡ None → use_fault ds x ≡ None
       unfolding shared.spatial shared.predicate
       spatial_defined n k (Cell t ts) f e = refl
       spatial_defined n k (Pred p ts) f e =
           let us = map term_tree ts in
           let used = neither (use_flaw (arity_in hs (name_of ds p)) (length us) k)
-          (or_later (over_if (nat_le 32 n) SpatialAtoms k) (arguments_flaw (term_flaw scope) term_span (k + 2) us))
-          e in
+          (or_later (over_if (nat_le most.spatial n) SpatialAtoms k)
+          (arguments_flaw (term_flaw scope) term_span most (k + 2) us)) e in
           subst (λ m. arity_fault (slice_get ds p) m ≡ None) (length-map ts term_tree)
           (use_defined p (length us) k f.1.0 used.0)
 
       spatials_defined : (n k : ℕ) (xs : List SpatialAtom)
           → Each (spatial (terms universal)).fits (map (spatial_tree ds) xs)
-          → listed_flaw (spatial_flaw (term_flaw scope) term_span 32 hs) (spatial_span term_span) n k
+          → listed_flaw (spatial_flaw (term_flaw scope) term_span most hs) (spatial_span term_span) n k
           (map (spatial_tree ds) xs) ≡ None → first_fault (use_fault ds) xs ≡ None
       spatials_defined n k [] f e = refl
       spatials_defined n k (x ∷ xs) f e =
-          let flaw = spatial_flaw (term_flaw scope) term_span 32 hs in
+          let flaw = spatial_flaw (term_flaw scope) term_span most hs in
           let tree = spatial_tree ds x in
           let both = neither (flaw n k tree) (listed_flaw flaw (spatial_span term_span) (suc n)
           (k + spatial_span term_span tree) (map (spatial_tree ds) xs)) e in
@@ -131,45 +132,46 @@ module _ (ds : List DefinitionValue) where
           (spatials_defined (suc n) (k + spatial_span term_span tree) xs f.1 both.1)
 
       heap_defined : (k : ℕ) (a : SymbolicHeap) → (heap (terms universal)).fits (heap_tree ds a)
-          → heap_flaw (term_flaw scope) term_span 32 hs k (heap_tree ds a) ≡ None → case_fault ds a ≡ None
+          → heap_flaw (term_flaw scope) term_span most hs k (heap_tree ds a) ≡ None → case_fault ds a ≡ None
       unfolding shared.heap
       heap_defined k a f e =
           let h = heap_tree ds a in
           let j = k + pures_span term_span h.pure in
-          let both = neither (listed_flaw (pure_flaw (term_flaw scope) term_span) (pure_span term_span) 0 k h.pure)
-          (listed_flaw (spatial_flaw (term_flaw scope) term_span 32 hs) (spatial_span term_span) 0 j h.spatial) e in
+          let both = neither (listed_flaw (pure_flaw (term_flaw scope) term_span most) (pure_span term_span) 0 k h.pure)
+          (listed_flaw (spatial_flaw (term_flaw scope) term_span most hs) (spatial_span term_span) 0 j h.spatial) e in
           spatials_defined 0 j a.spatial (spatials_fit universal h.spatial f.1.1) both.1
 
     cases_defined : (arity n k : ℕ) (cs : List SymbolicHeap) → Each (heap (terms false)).fits (map (heap_tree ds) cs)
-        → listed_flaw (counted_flaw (term_flaw (InCase arity)) term_span 32 hs Cases) (heap_span term_span) n k
-        (map (heap_tree ds) cs) ≡ None → first_fault (case_fault ds) cs ≡ None
+        → listed_flaw (counted_flaw (term_flaw (InCase arity most.locals)) term_span most hs Cases)
+        (heap_span term_span) n k (map (heap_tree ds) cs) ≡ None → first_fault (case_fault ds) cs ≡ None
     cases_defined arity n k [] f e = refl
     cases_defined arity n k (a ∷ cs) f e =
-        let flaw = counted_flaw (term_flaw (InCase arity)) term_span 32 hs Cases in
+        let flaw = counted_flaw (term_flaw (InCase arity most.locals)) term_span most hs Cases in
         let tree = heap_tree ds a in
         let both = neither (flaw n k tree) (listed_flaw flaw (heap_span term_span) (suc n)
         (k + heap_span term_span tree) (map (heap_tree ds) cs)) e in
-        let own = neither (over_if (nat_le 16 n) Cases k) (heap_flaw (term_flaw (InCase arity)) term_span 32 hs k tree)
-        both.0 in
-        then_none (case_fault ds a) (first_fault (case_fault ds) cs) (heap_defined false (InCase arity) k a f.0 own.1)
+        let own = neither (over_if (nat_le most.cases n) Cases k)
+        (heap_flaw (term_flaw (InCase arity most.locals)) term_span most hs k tree) both.0 in
+        then_none (case_fault ds a) (first_fault (case_fault ds) cs)
+        (heap_defined false (InCase arity most.locals) k a f.0 own.1)
         (cases_defined arity (suc n) (k + heap_span term_span tree) cs f.1 both.1)
 
     definition_defined : (n k : ℕ) (d : DefinitionValue) → definition.fits (definition_tree ds d)
-        → definition_flaw 32 hs n k (definition_tree ds d) ≡ None → definition_fault ds d ≡ None
+        → definition_flaw most hs n k (definition_tree ds d) ≡ None → definition_fault ds d ≡ None
     unfolding definition cases
     definition_defined n k d f e =
         let tree = definition_tree ds d in
-        let both = neither (head_flaw hs n k tree)
-        (heaps_flaw (term_flaw (InCase d.arity)) term_span 32 hs Cases (k + 6) tree.cases) e in
+        let both = neither (head_flaw most hs n k tree)
+        (heaps_flaw (term_flaw (InCase d.arity most.locals)) term_span most hs Cases (k + 6) tree.cases) e in
         cases_defined d.arity 0 (k + 6) d.cases (listed_fit shared.some_heap bar closing_brace (heap (terms false))
         tree.cases f.1.1.1) both.1
 
     definitions_defined : (n k : ℕ) (xs : List DefinitionValue) → Each definition.fits (map (definition_tree ds) xs)
-        → listed_flaw (definition_flaw 32 hs) definition_span n k (map (definition_tree ds) xs) ≡ None
+        → listed_flaw (definition_flaw most hs) definition_span n k (map (definition_tree ds) xs) ≡ None
         → first_fault (definition_fault ds) xs ≡ None
     definitions_defined n k [] f e = refl
     definitions_defined n k (d ∷ xs) f e =
-        let flaw = definition_flaw 32 hs in
+        let flaw = definition_flaw most hs in
         let tree = definition_tree ds d in
         let both = neither (flaw n k tree) (listed_flaw flaw definition_span (suc n) (k + definition_span tree)
         (map (definition_tree ds) xs)) e in
@@ -183,12 +185,13 @@ unfolding run body claim
 run_closed r =
     let tree = tree_of_run r in
     let none = (faultless tree r.flawless).definitions in
-    definitions_defined r.defs.list none 0 4 r.defs.list (definitions_fit tree.definitions r.fits.1.0.0) none
+    definitions_defined (allowed tree) r.defs.list none 0 4 r.defs.list
+    (definitions_fit tree.definitions r.fits.1.1.0.0) none
 
 pub precondition_known : (r : RunFile) → case_fault r.defs.list r.precondition ≡ None
 unfolding run body claim state_claimed
 precondition_known r =
     let tree = tree_of_run r in
     let parts = faultless tree r.flawless in
-    heap_defined r.defs.list parts.definitions true Outside (from_place tree + 3)
-    r.precondition r.fits.1.0.1.1.1 parts.precondition
+    heap_defined (allowed tree) r.defs.list parts.definitions true Outside (from_place tree + 3)
+    r.precondition r.fits.1.1.0.1.1.1 parts.precondition

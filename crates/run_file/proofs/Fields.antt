@@ -1,10 +1,11 @@
 -- Numbers, cells, picks and outcomes that pass the tests have a text, and cells and picks have no flaw.
-use Rattle.std.proofs.Common.{◌≡◌, ℕ, suc, ◌+◌, ◌<◌, ◌≤◌, ◌^◌, Bool, true, false, List, [], ◌∷◌, length, map, get_or}
-use Rattle.std.proofs.Common.{Option, Some, None, refl, sym, ap, subst, ◌∙◌, arith}
+use Rattle.std.proofs.Common.{◌≡◌, ℕ, suc, ◌+◌, ◌*◌, ◌<◌, ◌≤◌, ◌^◌, Bool, true, false, List, [], ◌∷◌, length, map}
+use Rattle.std.proofs.Common.{get_or, Option, Some, None, refl, sym, ap, subst, ◌∙◌, arith}
 use Rattle.std.specs.Prelude.{◌&&◌, nat_lt, nat_le}
 use Rattle.std.specs.List.{list_all}
 use Rattle.std.specs.FinMap.{entries, len, len-entries}
 use Rattle.std.proofs.lemmas.Bool.{and_left, ltb-true, leb-true, le-leb, lt-leb, ne_eqb}
+use Rattle.cyc_basics.specs.declared.limits.Limits.{Limits}
 use Rattle.heap_formula.specs.Words.{Each}
 use Rattle.heap_formula.specs.Cells.{Cells, cell_at, IsHeap}
 use Rattle.heap_formula.proofs.AllMembers.{each_imply, each_both}
@@ -74,28 +75,29 @@ module _ (s : List ℕ) (short : is_short_stack s ≡ true) where
 -- ---- cells
 
 -- the parts of the test of a cell
-record IsShort (a : ℕ) (vs : List ℕ) : Type 0 where
+record IsShort (most : Limits) (a : ℕ) (vs : List ℕ) : Type 0 where
   address : a < 10 ^ 9
   some : 0 < length vs
-  few : length vs ≤ 8
+  few : length vs ≤ most.arguments
   fields : are_short_numbers vs ≡ true
 
-short_parts : (a : ℕ) (vs : List ℕ) → is_short_cell a vs ≡ true → IsShort a vs
-short_parts a vs e =
-    let whole = and-parts (is_short_number a) (are_fields vs) e in
-    let counted = nat_lt 0 (length vs) && nat_le (length vs) 8 in
+short_parts : (most : Limits) (a : ℕ) (vs : List ℕ) → is_short_cell most a vs ≡ true → IsShort most a vs
+short_parts most a vs e =
+    let whole = and-parts (is_short_number a) (are_fields most vs) e in
+    let counted = nat_lt 0 (length vs) && nat_le (length vs) most.arguments in
     let fields = and-parts counted (are_short_numbers vs) whole.1 in
-    let counts = and-parts (nat_lt 0 (length vs)) (nat_le (length vs) 8) fields.0 in
+    let counts = and-parts (nat_lt 0 (length vs)) (nat_le (length vs) most.arguments) fields.0 in
     record {
       address = short_number a whole.0;
       some = ltb-true 0 (length vs) counts.0;
-      few = leb-true (length vs) 8 counts.1;
+      few = leb-true (length vs) most.arguments counts.1;
       fields = fields.1;
     }
 
-cell_fits : (a : ℕ) (vs : List ℕ) → is_short_cell a vs ≡ true → cell.fits (record { address = a; fields = vs })
+cell_fits : (most : Limits) (a : ℕ) (vs : List ℕ) → is_short_cell most a vs ≡ true
+    → cell.fits (record { address = a; fields = vs })
 unfolding cell
-cell_fits a vs e = let parts = short_parts a vs e in
+cell_fits most a vs e = let parts = short_parts most a vs e in
     (tt, (parts.address, numbers_fit closing vs parts.some parts.fields))
 
 -- a cell of a heap stands at a positive address
@@ -108,75 +110,76 @@ all_positive : (h : Cells) → IsHeap h → Each (λ (e : ℕ × List ℕ). 0 < 
 all_positive h w = each_index (λ (e : ℕ × List ℕ). 0 < e.0) (0, []) (entries h)
     (λ i l. w.positive (get_or (entries h) i (0, [])).0 (get_or (entries h) i (0, [])).1 (cell_found h i (0, []) l))
 
-fine : (e : ℕ × List ℕ) → (0 < e.0) × (is_short_entry e ≡ true) → IsFine (to_cell e)
-fine e p =
+fine : (most : Limits) (e : ℕ × List ℕ) → (0 < e.0) × (is_short_entry most e ≡ true) → IsFine most (to_cell e)
+fine most e p =
     let first = p.0 in
-    record { positive = ne_eqb e.0 0 (λ z. omega (arith, z)); few = (short_parts e.0 e.1 p.1).few }
+    record { positive = ne_eqb e.0 0 (λ z. omega (arith, z)); few = (short_parts most e.0 e.1 p.1).few }
 
-module _ (h : Cells) (w : IsHeap h) (short : is_short_heap h ≡ true) where
-  heap_parts : (nat_le (length (entries h)) 16 ≡ true) × (list_all is_short_entry (entries h) ≡ true)
-  heap_parts = and-parts (nat_le (length (entries h)) 16) (list_all is_short_entry (entries h)) short
+module _ (most : Limits) (h : Cells) (w : IsHeap h) (short : is_short_heap most h ≡ true) where
+  heap_parts : (nat_le (length (entries h)) most.cells ≡ true) × (list_all (is_short_entry most) (entries h) ≡ true)
+  heap_parts = and-parts (nat_le (length (entries h)) most.cells) (list_all (is_short_entry most) (entries h)) short
 
-  each_entry_short : Each (λ (e : ℕ × List ℕ). is_short_entry e ≡ true) (entries h)
-  each_entry_short = each_passes is_short_entry (λ (e : ℕ × List ℕ). is_short_entry e ≡ true) (λ e p. p) (entries h)
-      heap_parts.1
+  each_entry_short : Each (λ (e : ℕ × List ℕ). is_short_entry most e ≡ true) (entries h)
+  each_entry_short = each_passes (is_short_entry most) (λ (e : ℕ × List ℕ). is_short_entry most e ≡ true) (λ e p. p)
+      (entries h) heap_parts.1
 
-  entries_fit : (es : List (ℕ × List ℕ)) → Each (λ (e : ℕ × List ℕ). is_short_entry e ≡ true) es
+  entries_fit : (es : List (ℕ × List ℕ)) → Each (λ (e : ℕ × List ℕ). is_short_entry most e ≡ true) es
       → cells.fits (map to_cell es)
   unfolding cells cells1
   entries_fit [] a = (tt, tt)
   entries_fit (e ∷ es) a = (
     tt,
     listed_fits cell to_cell some_cell comma semicolon (e ∷ es) (omega arith)
-        (each_imply (λ (x : ℕ × List ℕ). is_short_entry x ≡ true) (λ (x : ℕ × List ℕ). cell.fits (to_cell x))
-        (λ x p. cell_fits x.0 x.1 p) (e ∷ es) a),
+        (each_imply (λ (x : ℕ × List ℕ). is_short_entry most x ≡ true) (λ (x : ℕ × List ℕ). cell.fits (to_cell x))
+        (λ x p. cell_fits most x.0 x.1 p) (e ∷ es) a),
   )
 
   pub heap_fits : cells.fits (cells_tree h)
   heap_fits = entries_fit (entries h) each_entry_short
 
-  pub heap_right : (k : ℕ) → cells_flaw k (cells_tree h) ≡ None
+  pub heap_right : (k : ℕ) → cells_flaw most k (cells_tree h) ≡ None
   heap_right k =
       let positive = λ (e : ℕ × List ℕ). 0 < e.0 in
-      let passes = λ (e : ℕ × List ℕ). is_short_entry e ≡ true in
-      cells_right h k (each_imply (λ e. positive e × passes e) (λ e. IsFine (to_cell e)) fine (entries h)
-      (each_both positive passes (entries h) (all_positive h w) each_entry_short))
-      (leb-true (length (entries h)) 16 heap_parts.0)
+      let passes = λ (e : ℕ × List ℕ). is_short_entry most e ≡ true in
+      cells_right most h k (each_imply (λ e. positive e × passes e) (λ e. IsFine most (to_cell e)) (fine most)
+      (entries h) (each_both positive passes (entries h) (all_positive h w) each_entry_short))
+      (leb-true (length (entries h)) most.cells heap_parts.0)
 
 -- ---- picks
 
-pick_fits : (p : Pick) → is_short_pick p ≡ true → pick.fits p
+pick_fits : (most : Limits) (p : Pick) → is_short_pick most p ≡ true → pick.fits p
 unfolding pick
-pick_fits (CellPicked a vs) e = (tt, cell_fits a vs e)
-pick_fits (Jumps true) e = (tt, tt)
-pick_fits (Jumps false) e = (tt, tt)
+pick_fits most (CellPicked a vs) e = (tt, cell_fits most a vs e)
+pick_fits most (Jumps true) e = (tt, tt)
+pick_fits most (Jumps false) e = (tt, tt)
 
-pub picks_fit : (ps : List Pick) → list_all is_short_pick ps ≡ true → picks.fits ps
+pub picks_fit : (most : Limits) (ps : List Pick) → list_all (is_short_pick most) ps ≡ true → picks.fits ps
 unfolding picks picks1
-picks_fit [] e = (tt, tt)
-picks_fit (p ∷ ps) e = (
+picks_fit most [] e = (tt, tt)
+picks_fit most (p ∷ ps) e = (
   tt,
   subst (λ (xs : List Pick). (picks1).fits xs) (map_same (p ∷ ps))
       (listed_fits pick (λ (x : Pick). x) some_pick comma semicolon (p ∷ ps) (omega arith)
-      (each_passes is_short_pick pick.fits pick_fits (p ∷ ps) e)),
+      (each_passes (is_short_pick most) pick.fits (pick_fits most) (p ∷ ps) e)),
 )
 
-pick_right : (k : ℕ) (p : Pick) → is_short_pick p ≡ true → pick_flaw k p ≡ None
-pick_right k (CellPicked a vs) e =
-    let few = (short_parts a vs e).few in
-    ap (λ (b : Bool). over_if b Arguments (k + 3 + 16)) (lt-leb 9 (length vs) (omega arith))
-pick_right k (Jumps b) e = refl
+pick_right : (most : Limits) (k : ℕ) (p : Pick) → is_short_pick most p ≡ true → pick_flaw most k p ≡ None
+pick_right most k (CellPicked a vs) e =
+    let few = (short_parts most a vs e).few in
+    ap (λ (b : Bool). over_if b Arguments (k + 3 + 2 * most.arguments)) (le-ltb most.arguments (length vs) few)
+pick_right most k (Jumps b) e = refl
 
-listed_right : (n k : ℕ) (ps : List Pick) → list_all is_short_pick ps ≡ true
-    → listed_flaw (λ n. pick_flaw) pick_span n k ps ≡ None
-listed_right n k [] e = refl
-listed_right n k (p ∷ ps) e =
-    let both = and-parts (is_short_pick p) (list_all is_short_pick ps) e in
-    none_later (pick_flaw k p) (listed_flaw (λ n. pick_flaw) pick_span (suc n) (k + pick_span p) ps)
-    (pick_right k p both.0) (listed_right (suc n) (k + pick_span p) ps both.1)
+listed_right : (most : Limits) (n k : ℕ) (ps : List Pick) → list_all (is_short_pick most) ps ≡ true
+    → listed_flaw (λ n. pick_flaw most) pick_span n k ps ≡ None
+listed_right most n k [] e = refl
+listed_right most n k (p ∷ ps) e =
+    let both = and-parts (is_short_pick most p) (list_all (is_short_pick most) ps) e in
+    none_later (pick_flaw most k p) (listed_flaw (λ n. pick_flaw most) pick_span (suc n) (k + pick_span p) ps)
+    (pick_right most k p both.0) (listed_right most (suc n) (k + pick_span p) ps both.1)
 
-pub picks_right : (k : ℕ) (ps : List Pick) → list_all is_short_pick ps ≡ true → picks_flaw k ps ≡ None
-picks_right k ps e = listed_right 0 k ps e
+pub picks_right : (most : Limits) (k : ℕ) (ps : List Pick) → list_all (is_short_pick most) ps ≡ true
+    → picks_flaw most k ps ≡ None
+picks_right most k ps e = listed_right most 0 k ps e
 
 -- ---- the outcome
 
@@ -214,31 +217,31 @@ outcome_fits (Grows g) e = (tt, growth_fits g e)
 abbrev none_there : ℕ × List ℕ
 none_there = (0, [])
 
-places_listed : (h : Cells) (es : List (ℕ × List ℕ))
+places_listed : (most : Limits) (h : Cells) (es : List (ℕ × List ℕ))
     → ((i : ℕ) → i < length es → cell_at h (get_or es i none_there).0 ≡ Some (get_or es i none_there).1)
-    → list_all (λ (a : ℕ). is_short_place (cell_at h a) a) (map (λ (e : ℕ × List ℕ). e.0) es)
-    ≡ list_all is_short_entry es
-places_listed h [] f = refl
-places_listed h (e ∷ es) f =
-    let first = ap (λ (o : Option (List ℕ)). is_short_place o e.0) (f 0 (omega arith)) in
-    let rest = places_listed h es (λ i l. f (suc i) (omega arith)) in
+    → list_all (λ (a : ℕ). is_short_place most (cell_at h a) a) (map (λ (e : ℕ × List ℕ). e.0) es)
+    ≡ list_all (is_short_entry most) es
+places_listed most h [] f = refl
+places_listed most h (e ∷ es) f =
+    let first = ap (λ (o : Option (List ℕ)). is_short_place most o e.0) (f 0 (omega arith)) in
+    let rest = places_listed most h es (λ i l. f (suc i) (omega arith)) in
     λ i. first i && rest i
 
-pub places_short : (h : Cells) → list_all (λ (a : ℕ). is_short_place (cell_at h a) a)
-    (map (λ (e : ℕ × List ℕ). e.0) (entries h)) ≡ list_all is_short_entry (entries h)
-places_short h = places_listed h (entries h) (λ i l. cell_found h i none_there l)
+pub places_short : (most : Limits) (h : Cells) → list_all (λ (a : ℕ). is_short_place most (cell_at h a) a)
+    (map (λ (e : ℕ × List ℕ). e.0) (entries h)) ≡ list_all (is_short_entry most) (entries h)
+places_short most h = places_listed most h (entries h) (λ i l. cell_found h i none_there l)
 
 -- the answers of the code
-pub heap_refused : (h : Cells) → 16 < len h → false ≡ is_short_heap h
-heap_refused h many =
+pub heap_refused : (most : Limits) (h : Cells) → most.cells < len h → false ≡ is_short_heap most h
+heap_refused most h many =
     let long = len-entries h in
-    sym (and_left (nat_le (length (entries h)) 16) (list_all is_short_entry (entries h))
-    (lt-leb (length (entries h)) 16 (omega (arith, long))))
+    sym (and_left (nat_le (length (entries h)) most.cells) (list_all (is_short_entry most) (entries h))
+    (lt-leb (length (entries h)) most.cells (omega (arith, long))))
 
-pub heap_tested : (h : Cells) (b : Bool) → len h ≤ 16
-    → b ≡ list_all (λ (a : ℕ). is_short_place (cell_at h a) a) (map (λ (e : ℕ × List ℕ). e.0) (entries h))
-    → b ≡ is_short_heap h
-heap_tested h b few e =
+pub heap_tested : (most : Limits) (h : Cells) (b : Bool) → len h ≤ most.cells
+    → b ≡ list_all (λ (a : ℕ). is_short_place most (cell_at h a) a) (map (λ (e : ℕ × List ℕ). e.0) (entries h))
+    → b ≡ is_short_heap most h
+heap_tested most h b few e =
     let long = len-entries h in
-    let counted = le-leb (length (entries h)) 16 (omega (arith, long)) in
-    e ∙ places_short h ∙ ap (λ (c : Bool). c && list_all is_short_entry (entries h)) (sym counted)
+    let counted = le-leb (length (entries h)) most.cells (omega (arith, long)) in
+    e ∙ places_short most h ∙ ap (λ (c : Bool). c && list_all (is_short_entry most) (entries h)) (sym counted)

@@ -11,6 +11,5 @@ mod Lines
 mod RunsAgain
 mod Defined
 pub mod Readings
-mod Raised
 mod Fields
 mod RunTrees

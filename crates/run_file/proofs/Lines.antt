@@ -1,6 +1,7 @@
 -- What lines without a flaw say is written as those lines; and a program is what its lines say.
 use Rattle.std.proofs.Common.{◌≡◌, ℕ, suc, ◌+◌, true, false, List, [], ◌∷◌, None, refl, subst, arith}
 use Rattle.std.specs.Prelude.{◌&&◌, not, nat_eq, nat_le}
+use Rattle.cyc_basics.specs.declared.limits.Limits.{Limits}
 use Rattle.heap_formula.specs.declared.terms.Term.{Term}
 use Rattle.heap_formula.specs.declared.terms.Term.TheVariants as terms
 use Rattle.heap_formula.specs.declared.commands.Command.{Command}
@@ -47,31 +48,32 @@ command_again (Change v (changes.Load t n)) = λ i. Change v (changes.Load (oper
 command_again (Change v (changes.Store n t)) = λ i. Change v (changes.Store n (operand_again t i))
 
 -- a line without a flaw has its place as its number
-own_number : (count n k : ℕ) (l : Line) → line_flaw variable_flaw variable_span count n k l ≡ None → n + 1 ≡ l.number
-own_number count n k l e =
+own_number : (most : Limits) (count n k : ℕ) (l : Line)
+    → line_flaw variable_flaw variable_span most count n k l ≡ None → n + 1 ≡ l.number
+own_number most count n k l e =
     let ends = nat_eq (suc n) count && goes_on l.command in
     let wrong = not (nat_eq l.number (suc n)) in
     let a = neither (line_head_flaw count n k l.number (goes_on l.command))
-    (command_flaw variable_flaw variable_span count (k + 3) l.command) e in
+    (command_flaw variable_flaw variable_span most count (k + 3) l.command) e in
     let b = neither (ill_if ends FallsOff k) (or_later (over_if (nat_le 4096 n) Lines k)
     (ill_if wrong Numbering (k + 1))) a.0 in
     let c = neither (over_if (nat_le 4096 n) Lines k) (ill_if wrong Numbering (k + 1)) b.1 in
     let same = equal_numbers l.number (suc n) (not_ill wrong Numbering (k + 1) c.1) in
     omega (arith, same)
 
-pub lines_again : (count n k : ℕ) (ls : List Line)
-    → listed_flaw (line_flaw variable_flaw variable_span count) (line_span variable_span) n k ls ≡ None
+pub lines_again : (most : Limits) (count n k : ℕ) (ls : List Line)
+    → listed_flaw (line_flaw variable_flaw variable_span most count) (line_span variable_span) n k ls ≡ None
     → lines_behind n (program_value ls) ≡ ls
-lines_again count n k [] e = refl
-lines_again count n k (l ∷ ls) e =
+lines_again most count n k [] e = refl
+lines_again most count n k (l ∷ ls) e =
     let span = line_span variable_span in
-    let flaw = line_flaw variable_flaw variable_span count in
+    let flaw = line_flaw variable_flaw variable_span most count in
     let both = neither (flaw n k l) (listed_flaw flaw span (suc n) (k + span l) ls) e in
-    let number = own_number count n k l both.0 in
+    let number = own_number most count n k l both.0 in
     let command = command_again l.command in
     let next : suc n ≡ n + 1 = omega arith in
     let rest = subst (λ (m : ℕ). lines_behind m (program_value ls) ≡ ls) next
-    (lines_again count (suc n) (k + span l) ls both.1) in
+    (lines_again most count (suc n) (k + span l) ls both.1) in
     λ i. record { number = number i; command = command i } ∷ rest i
 
 -- ---- commands

@@ -4,7 +4,6 @@ use Rattle.std.specs.Prelude.{◌||◌, nat_eq, nat_lt}
 use Rattle.std.proofs.lemmas.Bool.{ltb-false, or_parts}
 use Rattle.std.proofs.lemmas.List.{length-map}
 use Rattle.cyc_lex.specs.declared.fault.IllFault.TheVariants.{NoLine}
-use Rattle.heap_syntax.specs.declared.version.Version.TheVariants.{Two}
 use Rattle.heap_reader.specs.Flaws.{ill_if, or_later, listed_flaw, heap_flaw}
 use Rattle.heap_reader.proofs.NoFlaw.{neither, not_ill, positive}
 use Rattle.heap_reader.specs.declared.definitions.scope.Scope.TheVariants.{Outside}
@@ -17,33 +16,35 @@ use Rattle.proof_file.specs.Flaws.{first_line, program_flaw}
 use Rattle.proof_file.proofs.Fitting.{file_parts}
 use Rattle.model_file.specs.Flaws.{stack_flaw, cells_flaw}
 use Rattle.run_file.specs.Trees.{Run}
-use Rattle.run_file.specs.Flaws.{picks_flaw, from_place, first_value, first_cell, first_pick, front_flaw, claim_flaw}
-use Rattle.run_file.specs.Flaws.{state_given_flaw, run_flaw}
+use Rattle.run_file.specs.Flaws.{format, allowed, picks_flaw, from_place, first_value, first_cell, first_pick}
+use Rattle.run_file.specs.Flaws.{front_flaw, claim_flaw, state_given_flaw, run_flaw}
 
 -- no part has a flaw
 pub record Faultless (r : Run) : Type 0 where
   pub front : front_flaw r ≡ None
-  pub definitions : listed_flaw (definition_flaw 32 (headings r.definitions)) definition_span 0 4 r.definitions ≡ None
-  pub program : program_flaw (first_line (front_of Two r.definitions r.lines)) r.lines ≡ None
+  pub definitions : listed_flaw (definition_flaw (allowed r) (headings r.definitions)) definition_span 0 4 r.definitions
+      ≡ None
+  pub program : program_flaw (allowed r) (first_line (front_of (format r) r.definitions r.lines)) r.lines ≡ None
   pub claim : claim_flaw r ≡ None
   pub line : (nat_eq r.line 0 || nat_lt (length r.lines) r.line) ≡ false
-  pub precondition : heap_flaw (term_flaw Outside) term_span 32 (headings r.definitions) (from_place r + 3)
+  pub precondition : heap_flaw (term_flaw Outside) term_span (allowed r) (headings r.definitions) (from_place r + 3)
       r.precondition ≡ None
   pub stack : stack_flaw (first_value r) r.stack ≡ None
-  pub cells : cells_flaw (first_cell r) r.cells ≡ None
-  pub picks : picks_flaw (first_pick r) r.picks ≡ None
+  pub cells : cells_flaw (allowed r) (first_cell r) r.cells ≡ None
+  pub picks : picks_flaw (allowed r) (first_pick r) r.picks ≡ None
 
 pub faultless : (r : Run) → run_flaw r ≡ None → Faultless r
 faultless r e =
-    let picks = picks_flaw (first_pick r) r.picks in
+    let picks = picks_flaw (allowed r) (first_pick r) r.picks in
     let a = neither (front_flaw r) (or_later (claim_flaw r) (or_later (state_given_flaw r) picks)) e in
     let b = neither (claim_flaw r) (or_later (state_given_flaw r) picks) a.1 in
     let c = neither (state_given_flaw r) picks b.1 in
-    let d = neither (stack_flaw (first_value r) r.stack) (cells_flaw (first_cell r) r.cells) c.0 in
-    let fronts = file_parts (front_of Two r.definitions r.lines) a.0 in
+    let d = neither (stack_flaw (first_value r) r.stack) (cells_flaw (allowed r) (first_cell r) r.cells) c.0 in
+    let fronts = file_parts (front_of (format r) r.definitions r.lines) a.0 in
     let out = nat_eq r.line 0 || nat_lt (length r.lines) r.line in
     let claims = neither (ill_if out NoLine (from_place r + 1))
-    (heap_flaw (term_flaw Outside) term_span 32 (headings r.definitions) (from_place r + 3) r.precondition) b.0 in
+    (heap_flaw (term_flaw Outside) term_span (allowed r) (headings r.definitions) (from_place r + 3) r.precondition)
+    b.0 in
     record {
       front = a.0;
       definitions = fronts.0;

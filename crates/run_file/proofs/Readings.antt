@@ -18,6 +18,7 @@ use Rattle.run_file.proofs.RunsAgain.{tree_of_run, run_known}
 -- a tree says one run
 pub one_run : (t : Run) (r s : RunFile) → IsRunOf t r → IsRunOf t s → AreSame r s
 one_run t r s first second = record {
+  version = first.version ∙ sym second.version;
   most = first.most ∙ sym second.most;
   definitions = first.definitions ∙ sym second.definitions;
   program = first.program ∙ sym second.program;
@@ -38,7 +39,8 @@ one_spelled bytes r s first second =
 -- ---- what is written
 
 abbrev text_of_run_file : RunFile → List ℕ
-text_of_run_file r = text_of_run r.defs.list r.program r.line r.precondition r.stack r.heap r.picks.items r.outcome
+text_of_run_file r =
+    text_of_run r.version r.defs.list r.program r.line r.precondition r.stack r.heap r.picks.items r.outcome
 
 -- a run's text spells it
 pub text_is_read : (r : RunFile) → IsRead (text_of_run_file r) (Ok r)

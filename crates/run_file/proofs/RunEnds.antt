@@ -6,25 +6,27 @@ use Rattle.cyc_lex.proofs.Letters.{letters-name}
 use Rattle.cyc_grammar.specs.Syntax.{Class, one, is_one}
 use Rattle.cyc_grammar.specs.Classes.{number}
 use Rattle.cyc_grammar.proofs.Ends.{Inner, EndsLast, one-inner, seq-inner, alt-inner, after-inner, before-inner}
-use Rattle.cyc_grammar.proofs.Ends.{shaped-inner, or_empty-inner, end-once, number-inner}
+use Rattle.cyc_grammar.proofs.Ends.{shaped-inner, headed-inner, or_empty-inner, end-once, number-inner}
 use Rattle.heap_syntax.specs.Words.{from_word, given_word, comma, semicolon, arrow, opening, closing, last_word}
 use Rattle.heap_syntax.specs.Words.{cyclist_word, dollar}
-use Rattle.heap_syntax.specs.Versions.{first_version}
-use Rattle.heap_syntax.specs.declared.version.Version.TheVariants.{Two}
 use Rattle.heap_syntax.specs.Grammar.{Any}
-use Rattle.heap_syntax.proofs.WordTexts.{from-word, given-word, last-word, cyclist-word, first_version-word, syms}
+use Rattle.heap_syntax.proofs.WordTexts.{from-word, given-word, last-word, cyclist-word, syms}
 use Rattle.heap_syntax.proofs.HeapEnds.{listed-inner}
 use Rattle.heap_syntax.specs.DefinitionGrammar.{terms, heap, definitions}
 use Rattle.heap_syntax.proofs.DefinitionEnds.{heap-of, definitions-inner}
 use Rattle.heap_syntax.specs.LineGrammar.{line_word}
 use Rattle.heap_syntax.proofs.CommandLaws.{lines-inner}
 use Rattle.proof_syntax.specs.Grammar.{variable, lines}
+use Rattle.model_file.specs.declared.version.ModelVersion.{ModelVersion}
+use Rattle.model_file.specs.Versions.{format_of, model_version}
+use Rattle.model_file.proofs.ModelEnds.{version-word}
 use Rattle.model_file.specs.Trees.{Cell}
 use Rattle.model_file.specs.Grammar.{stack_word, heap_word, numbers, values, to_cell, from_cell, cell, some_cell}
 use Rattle.model_file.specs.Grammar.{cells1, cells, state}
 use Rattle.run_file.specs.Grammar.{run_word, picks_word, jump_word, next_word, faults_word, repeats_word, step_word}
 use Rattle.run_file.specs.Grammar.{state_claimed, claim, to_pick, from_pick, pick, some_pick, picks1, picks, then_step}
 use Rattle.run_file.specs.Grammar.{faulting, repeating, to_outcome, from_outcome, outcome, ending, course, Parts}
+use Rattle.run_file.specs.Grammar.{contents}
 use Rattle.run_file.specs.Grammar.{to_run, from_run, body, run, grows_word, with_word, to_pair, from_pair, value_pair}
 use Rattle.run_file.specs.Grammar.{some_pair, value_pairs, to_growth, from_growth, growing, Ends}
 use Rattle.general_models.specs.declared.runs.growth.ValuePair.{ValuePair}
@@ -75,10 +77,11 @@ state_claimed-inner = after-inner from_word _ from-word
     (seq-inner (one number) _ number-inner (after-inner given_word _ given-word
     (before-inner (heap (terms true)) semicolon syms.semicolon_word (heap-of true))))
 
-claim-inner : Inner claim
+claim-inner : (v : ModelVersion) → Inner (claim v)
 unfolding claim
-claim-inner = seq-inner definitions _ definitions-inner
-    (seq-inner (lines Two) state_claimed (lines-inner Two variable variable-inner) state_claimed-inner)
+claim-inner v = seq-inner definitions _ definitions-inner
+    (seq-inner (lines (format_of v)) state_claimed (lines-inner (format_of v) variable variable-inner)
+    state_claimed-inner)
 
 numbers-inner : (behind : Class (Unit {0})) → is_lexeme (behind.word tt) ≡ true → Inner (numbers behind)
 unfolding numbers
@@ -152,12 +155,16 @@ unfolding course
 course-inner = seq-inner state _ state-inner (after-inner picks_word _ picks-word
     (seq-inner picks ending picks-inner ending-inner))
 
+contents-inner : (v : ModelVersion) → Inner (contents v)
+contents-inner v =
+    after-inner semicolon _ syms.semicolon_word (seq-inner (claim v) _ (claim-inner v)
+    (before-inner course semicolon syms.semicolon_word course-inner))
+
 pub body-inner : Inner body
 unfolding body
 body-inner = shaped-inner {A = Parts} to_run from_run Any _
     (after-inner cyclist_word _ cyclist-word (after-inner run_word _ run-word
-    (after-inner first_version _ first_version-word (after-inner semicolon _ syms.semicolon_word
-    (seq-inner claim _ claim-inner (before-inner course semicolon syms.semicolon_word course-inner))))))
+    (headed-inner model_version contents version-word contents-inner)))
 
 pub run-last : EndsLast run
 unfolding run

@@ -8,13 +8,10 @@ use Rattle.general_models.specs.declared.runs.picks.Pick.TheVariants.{Cell as Ce
 use Rattle.cyc_grammar.specs.Syntax.{Class, one, seq, alt, after, before, is_one}
 use Rattle.cyc_grammar.specs.Classes.{the_end, number}
 use Rattle.cyc_grammar.proofs.Laws.{Lawful, Stops, Begins, BeginsNot, ClassLaw, one-law, seq-law, shaped-law, alt-law}
-use Rattle.cyc_grammar.proofs.Laws.{after-law, before-law, or_empty-law, Stops-never}
+use Rattle.cyc_grammar.proofs.Laws.{after-law, before-law, headed-law, or_empty-law, Stops-never}
 use Rattle.cyc_grammar.proofs.ClassLaws.{symbol-law, keyword-law, the_end-law, number-law}
 use Rattle.heap_syntax.specs.Words.{from_word, given_word, comma, semicolon, arrow, opening, closing, last_word}
-use Rattle.heap_syntax.specs.Versions.{first_version}
-use Rattle.heap_syntax.specs.declared.version.Version.TheVariants.{Two}
 use Rattle.heap_syntax.specs.Grammar.{Any}
-use Rattle.heap_syntax.proofs.WordTexts.{first_version-law}
 use Rattle.heap_syntax.proofs.HeapLaws.{closed-stops, listed-law, listed-closed, listed-some, listed-not}
 use Rattle.heap_syntax.specs.DefinitionTrees.{Heap, Definition}
 use Rattle.heap_syntax.specs.DefinitionGrammar.{terms, heap, definitions}
@@ -24,6 +21,9 @@ use Rattle.heap_syntax.proofs.CommandLaws.{lines-law, lines-end}
 use Rattle.proof_syntax.specs.Trees.{Line}
 use Rattle.proof_syntax.specs.Grammar.{variable, lines}
 use Rattle.proof_syntax.proofs.GrammarLaws.{dollar_variables}
+use Rattle.model_file.specs.declared.version.ModelVersion.{ModelVersion}
+use Rattle.model_file.specs.Versions.{format_of, model_version}
+use Rattle.model_file.proofs.ModelLaws.{version-law}
 use Rattle.model_file.specs.Trees.{Cell}
 use Rattle.model_file.specs.Grammar.{stack_word, heap_word, numbers, values, to_cell, from_cell, cell, some_cell}
 use Rattle.model_file.specs.Grammar.{cells1, cells, state}
@@ -32,6 +32,7 @@ use Rattle.run_file.specs.declared.tree.Outcome.TheVariants.{Faults, Repeats, Gr
 use Rattle.run_file.specs.Grammar.{picks_word, jump_word, next_word, faults_word, repeats_word, step_word}
 use Rattle.run_file.specs.Grammar.{state_claimed, claim, to_pick, from_pick, pick, some_pick, picks1, picks, then_step}
 use Rattle.run_file.specs.Grammar.{faulting, repeating, to_outcome, from_outcome, outcome, ending, course, Parts}
+use Rattle.run_file.specs.Grammar.{Contents, contents}
 use Rattle.run_file.specs.Grammar.{to_run, from_run, body, run, grows_word, with_word, to_pair, from_pair, value_pair}
 use Rattle.run_file.specs.Grammar.{some_pair, value_pairs, to_growth, from_growth, growing, Ends}
 
@@ -46,28 +47,30 @@ state_claimed-law =
     (λ h f. heap-stops true (semicolon.word tt) refl h f)))
     (λ x y r fx fy h. Stops-never ((after given_word (before (heap (terms true)) semicolon)).words y ++ r)))
 
-lines-apart : (ls : List Line) (x : ℕ × Heap) (rest : List Word)
-    → Stops ((lines Two).more ls) (state_claimed.words x ++ rest)
+lines-apart : (v : ModelVersion) (ls : List Line) (x : ℕ × Heap) (rest : List Word)
+    → Stops ((lines (format_of v)).more ls) (state_claimed.words x ++ rest)
 unfolding state_claimed
-lines-apart ls x rest = lines-end Two variable (from_word.word tt) refl ls
+lines-apart v ls x rest = lines-end (format_of v) variable (from_word.word tt) refl ls
 
-definitions-apart : (ds : List Definition) (ls : List Line) (x : ℕ × Heap) (rest : List Word)
-    → Stops (definitions.more ds) ((seq (lines Two) state_claimed).words (ls, x) ++ rest)
+definitions-apart : (v : ModelVersion) (ds : List Definition) (ls : List Line) (x : ℕ × Heap) (rest : List Word)
+    → Stops (definitions.more ds) ((seq (lines (format_of v)) state_claimed).words (ls, x) ++ rest)
 unfolding state_claimed commands.lines commands.line
-definitions-apart ds [] x rest = definitions-end (from_word.word tt) refl ds
-definitions-apart ds (l ∷ ls) x rest = definitions-end (commands.line_word.word tt) refl ds
+definitions-apart v ds [] x rest = definitions-end (from_word.word tt) refl ds
+definitions-apart v ds (l ∷ ls) x rest = definitions-end (commands.line_word.word tt) refl ds
 
-claim-law : Lawful claim
+claim-law : (v : ModelVersion) → Lawful (claim v)
 unfolding claim
-claim-law =
-    seq-law definitions (seq (lines Two) state_claimed) definitions-law
-    (seq-law (lines Two) state_claimed (lines-law Two variable dollar_variables) state_claimed-law
-    (λ ls x r fl fx h. lines-apart ls x r))
-    (λ ds p r fd fp h. definitions-apart ds p.0 p.1 r)
+claim-law v =
+    let lines_of = lines (format_of v) in
+    seq-law definitions (seq lines_of state_claimed) definitions-law
+    (seq-law lines_of state_claimed (lines-law (format_of v) variable dollar_variables) state_claimed-law
+    (λ ls x r fl fx h. lines-apart v ls x r))
+    (λ ds p r fd fp h. definitions-apart v ds p.0 p.1 r)
 
-claim-closed : (c : List Definition × (List Line × (ℕ × Heap))) (d : Word) → claim.more c d ≡ false
+claim-closed : (v : ModelVersion) (c : List Definition × (List Line × (ℕ × Heap))) (d : Word)
+    → (claim v).more c d ≡ false
 unfolding claim state_claimed
-claim-closed c d = refl
+claim-closed v c d = refl
 
 -- ---- numbers
 
@@ -320,15 +323,20 @@ course-closed : (c : (List ℕ × List Cell) × (List Pick × Outcome)) (d : Wor
 unfolding course ending
 course-closed c d = refl
 
+contents-law : (v : ModelVersion) → Lawful (contents v)
+contents-law v =
+    after-law semicolon _ (symbol-law _)
+    (seq-law (claim v) (before course semicolon) (claim-law v)
+    (before-law course semicolon (symbol-law _) course-law (λ c f. course-closed c (semicolon.word tt)))
+    (λ x y r fx fy h. closed-stops (claim v) (λ x d f. claim-closed v x d) x fx
+    ((before course semicolon).words y ++ r)))
+
 body-law : Lawful body
 unfolding body
 body-law =
     shaped-law {A = Parts} to_run from_run Any _ (λ x f. (refl, tt)) (λ r h. refl)
     (after-law _ _ (keyword-law _) (after-law _ _ (keyword-law _)
-    (after-law first_version _ first_version-law (after-law semicolon _ (symbol-law _)
-    (seq-law claim (before course semicolon) claim-law
-    (before-law course semicolon (symbol-law _) course-law (λ c f. course-closed c (semicolon.word tt)))
-    (λ x y r fx fy h. closed-stops claim (λ x d f. claim-closed x d) x fx ((before course semicolon).words y ++ r)))))))
+    (headed-law model_version contents version-law contents-law)))
 
 pub run-law : Lawful run
 unfolding run body

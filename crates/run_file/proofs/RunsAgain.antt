@@ -1,10 +1,11 @@
 -- What a tree without a flaw says has a text; and a run is what its tree says.
-use Rattle.std.proofs.Common.{◌≡◌, ℕ, suc, ◌+◌, ◌<◌, true, Bool, List, [], ◌∷◌, length, map, None, refl, sym, ap, ◌∙◌}
-use Rattle.std.proofs.Common.{arith}
+use Rattle.std.proofs.Common.{◌≡◌, ℕ, suc, ◌+◌, ◌*◌, ◌<◌, true, Bool, List, [], ◌∷◌, length, map, None, refl, sym, ap}
+use Rattle.std.proofs.Common.{◌∙◌, arith}
 use Rattle.std.specs.Prelude.{◌&&◌, nat_le}
 use Rattle.std.specs.Ordering.{nat_cmp}
 use Rattle.std.specs.Cmp.{nat_cmp_total}
 use Rattle.std.specs.FinMap.{entries, from_entries, get-from_entries, get-entries, same_map, nat_cmp-IsAntisymmetric}
+use Rattle.cyc_basics.specs.declared.limits.Limits.{Limits}
 use Rattle.heap_formula.specs.Words.{Each}
 use Rattle.heap_formula.specs.Cells.{Cells}
 use Rattle.rule_table.specs.Tests.{is_universal_heap}
@@ -16,7 +17,6 @@ use Rattle.cyc_grammar.specs.Syntax.{Class, one, after, fits_many}
 use Rattle.cyc_grammar.specs.Classes.{number}
 use Rattle.heap_syntax.specs.Words.{comma, semicolon, closing}
 use Rattle.heap_syntax.specs.Grammar as shared
-use Rattle.heap_syntax.specs.declared.version.Version.TheVariants.{Two}
 use Rattle.heap_reader.specs.Flaws.{over_if, or_later, listed_flaw}
 use Rattle.heap_reader.specs.Values.{heap_value}
 use Rattle.heap_reader.proofs.NoFlaw.{neither, none_later, not_over, positive}
@@ -46,8 +46,8 @@ use Rattle.run_file.specs.Trees.{Run}
 use Rattle.run_file.specs.Grammar.{state_claimed, claim, claim_of, pick, picks1, picks, course, body, run}
 use Rattle.run_file.specs.Fits.{file_of, in_file}
 use Rattle.run_file.specs.Spans.{pick_span}
-use Rattle.run_file.specs.Flaws.{pick_flaw, picks_flaw, from_place, first_value, first_cell, first_pick, front_flaw}
-use Rattle.run_file.specs.Flaws.{claim_flaw, state_given_flaw, run_flaw}
+use Rattle.run_file.specs.Flaws.{format, allowed, pick_flaw, picks_flaw, from_place, first_value, first_cell}
+use Rattle.run_file.specs.Flaws.{first_pick, front_flaw, claim_flaw, state_given_flaw, run_flaw}
 use Rattle.run_file.specs.Small.{IsShortPick}
 use Rattle.run_file.specs.Written.{tree_of}
 use Rattle.run_file.specs.Reading.{IsRunOf}
@@ -84,22 +84,23 @@ sorted_fit cs f =
 
 -- ---- picks without a flaw have none wherever they stand
 
-fields_moved : (k j : ℕ) (vs : List ℕ) → fields_flaw k vs ≡ None → fields_flaw j vs ≡ None
-fields_moved k j vs e = ap (λ (b : Bool). over_if b Arguments (j + 16))
-    (not_over (nat_le 9 (length vs)) Arguments (k + 16) e)
+fields_moved : (most : Limits) (k j : ℕ) (vs : List ℕ) → fields_flaw most k vs ≡ None → fields_flaw most j vs ≡ None
+fields_moved most k j vs e = ap (λ (b : Bool). over_if b Arguments (j + 2 * most.arguments))
+    (not_over (nat_lt most.arguments (length vs)) Arguments (k + 2 * most.arguments) e)
 
-pick_moved : (k j : ℕ) (p : Pick) → pick_flaw k p ≡ None → pick_flaw j p ≡ None
-pick_moved k j (CellPicked a vs) e = fields_moved (k + 3) (j + 3) vs e
-pick_moved k j (Jumps b) e = refl
+pick_moved : (most : Limits) (k j : ℕ) (p : Pick) → pick_flaw most k p ≡ None → pick_flaw most j p ≡ None
+pick_moved most k j (CellPicked a vs) e = fields_moved most (k + 3) (j + 3) vs e
+pick_moved most k j (Jumps b) e = refl
 
-picks_moved : (n k j : ℕ) (ps : List Pick) → listed_flaw (λ n. pick_flaw) pick_span n k ps ≡ None
-    → listed_flaw (λ n. pick_flaw) pick_span n j ps ≡ None
-picks_moved n k j [] e = refl
-picks_moved n k j (p ∷ ps) e =
-    let rest = λ (i : ℕ). listed_flaw (λ n. pick_flaw) pick_span (suc n) (i + pick_span p) ps in
-    let both = neither (pick_flaw k p) (rest k) e in
-    none_later (pick_flaw j p) (rest j) (pick_moved k j p both.0)
-    (picks_moved (suc n) (k + pick_span p) (j + pick_span p) ps both.1)
+picks_moved : (most : Limits) (n k j : ℕ) (ps : List Pick)
+    → listed_flaw (λ n. pick_flaw most) pick_span n k ps ≡ None
+    → listed_flaw (λ n. pick_flaw most) pick_span n j ps ≡ None
+picks_moved most n k j [] e = refl
+picks_moved most n k j (p ∷ ps) e =
+    let rest = λ (i : ℕ). listed_flaw (λ n. pick_flaw most) pick_span (suc n) (i + pick_span p) ps in
+    let both = neither (pick_flaw most k p) (rest k) e in
+    none_later (pick_flaw most j p) (rest j) (pick_moved most k j p both.0)
+    (picks_moved most (suc n) (k + pick_span p) (j + pick_span p) ps both.1)
 
 -- ---- the tree with its cells in order
 
@@ -108,34 +109,36 @@ sorted r = record r { cells = cells_tree (cells_value r.cells) }
 
 pub sorted_fits : (r : Run) → run.fits r → run.fits (sorted r)
 unfolding run body course state
-sorted_fits r f = (tt, (f.1.0, ((f.1.1.0.0, sorted_fit r.cells f.1.1.0.1), f.1.1.1)))
+sorted_fits r f = (tt, (tt, (f.1.1.0, ((f.1.1.1.0.0, sorted_fit r.cells f.1.1.1.0.1), f.1.1.1.1))))
 
 pub sorted_flawless : (r : Run) → run_flaw r ≡ None → run_flaw (sorted r) ≡ None
 sorted_flawless r e =
     let parts = faultless r e in
-    let fine = fine_cells (first_cell r) r.cells parts.cells in
+    let fine = fine_cells (allowed r) (first_cell r) r.cells parts.cells in
     let s = sorted r in
-    let picks = picks_flaw (first_pick s) s.picks in
+    let picks = picks_flaw (allowed s) (first_pick s) s.picks in
     none_later (front_flaw s) (or_later (claim_flaw s) (or_later (state_given_flaw s) picks)) parts.front
     (none_later (claim_flaw s) (or_later (state_given_flaw s) picks) parts.claim
     (none_later (state_given_flaw s) picks
-    (none_later (stack_flaw (first_value s) s.stack) (cells_flaw (first_cell s) s.cells) parts.stack
-    (sorted_right r.cells (first_cell r) fine.0 fine.1))
-    (picks_moved 0 (first_pick r) (first_pick s) r.picks parts.picks)))
+    (none_later (stack_flaw (first_value s) s.stack) (cells_flaw (allowed s) (first_cell s) s.cells) parts.stack
+    (sorted_right (allowed r) r.cells (first_cell r) fine.0 fine.1))
+    (picks_moved (allowed r) 0 (first_pick r) (first_pick s) r.picks parts.picks)))
 
 -- the values of a tree without a flaw have the tree in order
-pub tree_again : (r : Run) → run_flaw r ≡ None → tree_of (map (definition_value (headings r.definitions)) r.definitions)
-    (program_value r.lines) r.line (heap_value term_value (headings r.definitions) r.precondition) r.stack
-    (cells_value r.cells) r.picks r.outcome ≡ sorted r
+pub tree_again : (r : Run) → run_flaw r ≡ None
+    → tree_of r.version (map (definition_value (headings r.definitions)) r.definitions) (program_value r.lines)
+    r.line (heap_value term_value (headings r.definitions) r.precondition) r.stack (cells_value r.cells) r.picks
+    r.outcome ≡ sorted r
 tree_again r e =
     let ds = r.definitions in
     let hs = headings ds in
     let vs = map (definition_value hs) ds in
     let parts = faultless r e in
-    let definitions = listed_again (definition_flaw 32 hs) definition_span (definition_value hs) (definition_tree vs)
-    (definition_again 32 hs vs (found_name hs ds)) 0 4 ds parts.definitions in
-    let lines = lines_again (length r.lines) 0 (first_line (front_of Two ds r.lines)) r.lines parts.program in
-    let precondition = heap_again 32 hs vs (found_name hs ds) Outside (from_place r + 3)
+    let definitions = listed_again (definition_flaw (allowed r) hs) definition_span (definition_value hs)
+    (definition_tree vs) (definition_again (allowed r) hs vs (found_name hs ds)) 0 4 ds parts.definitions in
+    let lines = lines_again (allowed r) (length r.lines) 0 (first_line (front_of (format r) ds r.lines)) r.lines
+    parts.program in
+    let precondition = heap_again (allowed r) hs vs (found_name hs ds) Outside (from_place r + 3)
     r.precondition parts.precondition in
     λ i. record (sorted r) { definitions = definitions i; lines = lines i; precondition = precondition i }
 
@@ -146,7 +149,7 @@ pub state_universal : (r : Run) → run.fits r → is_universal_heap
 unfolding run body
 state_universal r f =
     let state = heap_value term_value (headings r.definitions) r.precondition in
-    let all = nodes_readable (file_of (claim_of r)) (in_file (claim_of r) f.1.0) in
+    let all = nodes_readable (file_of r.version (claim_of r)) (in_file r.version (claim_of r) f.1.1.0) in
     (and-parts (is_universal_heap state) true (and-parts (is_universal_heap state && true) true all).0).0
 
 -- ---- a run is what its tree says
@@ -160,7 +163,7 @@ heap_is h = same_map nat_cmp_total nat_cmp-IsAntisymmetric _ _
     (λ q. get-from_entries nat_cmp_total (entries h) q ∙ sym (get-entries h q))
 
 abbrev pub tree_of_run : RunFile → Run
-tree_of_run r = tree_of r.defs.list r.program r.line r.precondition r.stack r.heap r.picks.items r.outcome
+tree_of_run r = tree_of r.version r.defs.list r.program r.line r.precondition r.stack r.heap r.picks.items r.outcome
 
 pub run_known : (r : RunFile) → IsRunOf (tree_of_run r) r
 unfolding run body claim state_claimed
@@ -169,14 +172,15 @@ run_known r =
     let tree = tree_of_run r in
     let hs = headings tree.definitions in
     let parts = faultless tree r.flawless in
-    let placed = found_place 32 ds parts.definitions in
+    let placed = found_place (allowed tree) ds parts.definitions in
     record {
+      version = refl;
       most = r.limit;
       definitions = sym (each_known (definition_tree ds) (definition_value hs) definition.fits
-          (definition_known ds hs placed) ds (definitions_fit tree.definitions r.fits.1.0.0));
+          (definition_known ds hs placed) ds (definitions_fit tree.definitions r.fits.1.1.0.0));
       program = sym (commands_known 0 r.program r.universal);
       line = refl;
-      precondition = sym (heap_known ds hs placed true r.precondition r.fits.1.0.1.1.1);
+      precondition = sym (heap_known ds hs placed true r.precondition r.fits.1.1.0.1.1.1);
       stack = refl;
       heap = sym (ap from_entries (entries_again (entries r.heap)) ∙ heap_is r.heap);
       picks = refl;
@@ -225,21 +229,26 @@ pub run_short : (r : Run) → run.fits r → Each IsShortNumber r.stack × Each 
     × Each IsShortPick r.picks
 unfolding run body course state
 run_short r f =
-    (short_values r.stack f.1.1.0.0, each_short r.cells (each_fits r.cells f.1.1.0.1), short_picks r.picks f.1.1.1.0)
+    (
+      short_values r.stack f.1.1.1.0.0,
+      each_short r.cells (each_fits r.cells f.1.1.1.0.1),
+      short_picks r.picks f.1.1.1.1.0,
+    )
 
 -- each cell has a field
 some_field : (c : Cell) → cell.fits c → 0 < length c.fields
 unfolding cell numbers shared.listed
 some_field c f = f.1.1.0
 
-each_small : (cs : List Cell) → Each cell.fits cs → Each IsFine cs → Each IsSmallCell cs
-each_small [] f g = tt
-each_small (c ∷ cs) f g = (
+each_small : (most : Limits) (cs : List Cell) → Each cell.fits cs → Each (IsFine most) cs → Each IsSmallCell cs
+each_small most [] f g = tt
+each_small most (c ∷ cs) f g = (
   record { positive = positive c.address g.0.positive; some = some_field c f.0 },
-  each_small cs f.1 g.1,
+  each_small most cs f.1 g.1,
 )
 
 pub run_small : (r : Run) → run.fits r → run_flaw r ≡ None → Each IsSmallCell r.cells
 unfolding run body course state
 run_small r f e =
-    each_small r.cells (each_fits r.cells f.1.1.0.1) (fine_cells (first_cell r) r.cells (faultless r e).cells).0
+    each_small (allowed r) r.cells (each_fits r.cells f.1.1.1.0.1)
+    (fine_cells (allowed r) (first_cell r) r.cells (faultless r e).cells).0

@@ -5,7 +5,6 @@ use Rattle.general_models.specs.declared.runs.picks.Pick.TheVariants.{Cell as Ce
 use Rattle.cyc_grammar.specs.Syntax.{Class, one, words_many}
 use Rattle.cyc_grammar.specs.Classes.{number, the_end}
 use Rattle.heap_syntax.specs.Words.{comma, semicolon, closing}
-use Rattle.heap_syntax.specs.declared.version.Version.TheVariants.{Two}
 use Rattle.heap_reader.specs.Spans.{total, heap_span}
 use Rattle.heap_reader.proofs.SpanLaws.{listed_words, alone}
 use Rattle.heap_reader.specs.LineSpans.{line_span}
@@ -18,6 +17,8 @@ use Rattle.proof_syntax.specs.Trees.{Line}
 use Rattle.proof_syntax.specs.Grammar.{variable, lines}
 use Rattle.proof_file.specs.Spans.{variable_span}
 use Rattle.proof_file.proofs.SpanLaws.{variable_words}
+use Rattle.model_file.specs.declared.version.ModelVersion.{ModelVersion}
+use Rattle.model_file.specs.Versions.{format_of}
 use Rattle.model_file.specs.Trees.{Cell}
 use Rattle.model_file.specs.Grammar.{heap_word, numbers, values, cell, some_cell, cells1, cells, state}
 use Rattle.model_file.specs.Spans.{numbers_span, values_span, cell_span, cells_span}
@@ -30,17 +31,17 @@ use Rattle.run_file.specs.Flaws.{outcome_place}
 
 -- ---- the claim
 
-claim_words : (ds : List Definition) (ls : List Line) (n : ℕ) (h : Heap) → claim.fits (ds, (ls, (n, h)))
-    → length (claim.words (ds, (ls, (n, h)))) ≡ total definition_span ds + total (line_span variable_span) ls +
-    (3 + heap_span term_span h)
+claim_words : (v : ModelVersion) (ds : List Definition) (ls : List Line) (n : ℕ) (h : Heap)
+    → (claim v).fits (ds, (ls, (n, h))) → length ((claim v).words (ds, (ls, (n, h))))
+    ≡ total definition_span ds + total (line_span variable_span) ls + (3 + heap_span term_span h)
 unfolding claim state_claimed definitions
-claim_words ds ls n h fit =
+claim_words v ds ls n h fit =
     let a = alone (λ w. true) definition definition_span definition_words ds fit.0 in
-    let b = lines_words variable variable_span variable_words Two ls fit.1.0 in
+    let b = lines_words variable variable_span variable_words (format_of v) ls fit.1.0 in
     let c = heap_words true h fit.1.1.1 in
     let e1 = length-append ((heap (terms true)).words h) (semicolon.word tt ∷ []) in
-    let e2 = length-append ((lines Two).words ls) (state_claimed.words (n, h)) in
-    let e3 = length-append (words_many definition ds) ((lines Two).words ls ++ state_claimed.words (n, h)) in
+    let e2 = length-append ((lines (format_of v)).words ls) (state_claimed.words (n, h)) in
+    let e3 = length-append (words_many definition ds) ((lines (format_of v)).words ls ++ state_claimed.words (n, h)) in
     omega arith
 
 -- ---- the stack and the heap
@@ -104,9 +105,10 @@ course_words s cs ps o fit =
 pub run_words : (r : Run) → run.fits r → outcome_place r < length (run.words r)
 unfolding run body
 run_words r fit =
-    let a = claim_words r.definitions r.lines r.line r.precondition fit.1.0 in
-    let b = course_words r.stack r.cells r.picks r.outcome fit.1.1 in
+    let a = claim_words r.version r.definitions r.lines r.line r.precondition fit.1.1.0 in
+    let b = course_words r.stack r.cells r.picks r.outcome fit.1.1.1 in
     let e1 = length-append (course.words (course_of r)) (semicolon.word tt ∷ []) in
-    let e2 = length-append (claim.words (claim_of r)) (course.words (course_of r) ++ semicolon.word tt ∷ []) in
+    let e2 = length-append ((claim r.version).words (claim_of r))
+    (course.words (course_of r) ++ semicolon.word tt ∷ []) in
     let e3 = length-append (body.words r) (the_end.word tt ∷ []) in
     omega arith

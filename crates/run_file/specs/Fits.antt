@@ -6,7 +6,6 @@ use Rattle.general_models.specs.declared.runs.picks.Pick.TheVariants.{Cell as Ce
 use Rattle.cyc_grammar.specs.Syntax.{one}
 use Rattle.cyc_grammar.specs.Classes.{number}
 use Rattle.heap_syntax.specs.Words.{comma, semicolon, closing}
-use Rattle.heap_syntax.specs.declared.version.Version.TheVariants.{Two}
 use Rattle.heap_syntax.specs.Grammar as shared
 use Rattle.heap_syntax.specs.Fits.{HasOneFit, listed-fit}
 use Rattle.heap_syntax.specs.DefinitionTrees.{Heap, Definition}
@@ -14,6 +13,9 @@ use Rattle.heap_syntax.specs.DefinitionGrammar.{definitions}
 use Rattle.proof_syntax.specs.Trees.{Line, File, From, Done}
 use Rattle.proof_syntax.specs.Grammar as proofs
 use Rattle.proof_file.specs.Fits.{file-fit}
+use Rattle.model_file.specs.declared.version.ModelVersion.{ModelVersion}
+use Rattle.model_file.specs.declared.version.ModelVersion.TheVariants.{One}
+use Rattle.model_file.specs.Versions.{format_of}
 use Rattle.model_file.specs.Trees.{Cell, Model}
 use Rattle.model_file.specs.Grammar as models
 use Rattle.model_file.specs.Fits.{model-fit}
@@ -24,40 +26,42 @@ use Rattle.run_file.specs.Grammar.{body, run}
 
 -- ---- the claim, as that of a proof file with one node
 
-abbrev pub file_of : List Definition × (List Line × (ℕ × Heap)) → File
-file_of c = record {
-  version = Two;
+abbrev pub file_of : ModelVersion → List Definition × (List Line × (ℕ × Heap)) → File
+file_of v c = record {
+  version = format_of v;
   definitions = c.0;
   lines = c.1.0;
   nodes = record { judgement = From c.1.1.0 c.1.1.1; reason = Done; premises = [] } ∷ [];
 }
 
-unfoldable pub in_file : (c : List Definition × (List Line × (ℕ × Heap))) → claim.fits c → proofs.file.fits (file_of c)
+unfoldable pub in_file : (v : ModelVersion) (c : List Definition × (List Line × (ℕ × Heap))) → (claim v).fits c
+    → proofs.file.fits (file_of v c)
 unfolding claim state_claimed proofs.file proofs.body proofs.nodes proofs.more_nodes proofs.node proofs.judgement
     proofs.state proofs.reason proofs.parts proofs.premises
-in_file c p = (tt, (tt, (p.0, (p.1.0, (lit< tt, ((tt, ((tt, p.1.1), ((tt, (tt, tt)), (tt, tt)))), tt))))))
+in_file v c p = (tt, (tt, (p.0, (p.1.0, (lit< tt, ((tt, ((tt, p.1.1), ((tt, (tt, tt)), (tt, tt)))), tt))))))
 
-unfoldable of_file : (c : List Definition × (List Line × (ℕ × Heap))) → proofs.file.fits (file_of c) → claim.fits c
+unfoldable of_file : (v : ModelVersion) (c : List Definition × (List Line × (ℕ × Heap)))
+    → proofs.file.fits (file_of v c) → (claim v).fits c
 unfolding claim state_claimed proofs.file proofs.body proofs.nodes proofs.more_nodes proofs.node proofs.judgement
     proofs.state proofs.reason proofs.parts proofs.premises
-of_file c f = (f.1.1.0, (f.1.1.1.0, f.1.1.1.1.1.0.1.0.1))
+of_file v c f = (f.1.1.0, (f.1.1.1.0, f.1.1.1.1.1.0.1.0.1))
 
-claim-fit : HasOneFit claim
+claim-fit : (v : ModelVersion) → HasOneFit (claim v)
 unfolding in_file of_file
-claim-fit c p q = ap (of_file c) (file-fit (file_of c) (in_file c p) (in_file c q))
+claim-fit v c p q = ap (of_file v c) (file-fit (file_of v c) (in_file v c p) (in_file v c q))
 
 -- ---- the stack and the heap, as those of a model file
 
 abbrev model_of : List ℕ × List Cell → Model
-model_of s = record { definitions = []; stack = s.0; cells = s.1; ask = shared.some_heap }
+model_of s = record { version = One; definitions = []; stack = s.0; cells = s.1; ask = shared.some_heap }
 
 unfoldable in_model : (s : List ℕ × List Cell) → models.state.fits s → models.model.fits (model_of s)
 unfolding models.model models.body models.question definitions shared.heap shared.pures shared.spatials
-in_model s p = (tt, (tt, (p, (tt, ((tt, tt), (tt, tt))))))
+in_model s p = (tt, (tt, (tt, (p, (tt, ((tt, tt), (tt, tt)))))))
 
 unfoldable of_model : (s : List ℕ × List Cell) → models.model.fits (model_of s) → models.state.fits s
 unfolding models.model models.body
-of_model s f = f.1.1.0
+of_model s f = f.1.1.1.0
 
 state-fit : HasOneFit models.state
 unfolding in_model of_model
@@ -97,5 +101,5 @@ outcome-fit (Grows g) = ×_prop Unit-prop (growing-fit g)
 pub run-fit : HasOneFit run
 unfolding run body course ending
 run-fit r =
-    ×_prop Unit-prop (×_prop (claim-fit (claim_of r)) (×_prop (state-fit (r.stack, r.cells))
-    (×_prop (picks-fit r.picks) (outcome-fit r.outcome))))
+    ×_prop Unit-prop (×_prop Unit-prop (×_prop (claim-fit r.version (claim_of r))
+    (×_prop (state-fit (r.stack, r.cells)) (×_prop (picks-fit r.picks) (outcome-fit r.outcome)))))

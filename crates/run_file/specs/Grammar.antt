@@ -1,21 +1,21 @@
 -- The grammar of run files.
 use Rattle.std.specs.Prelude.{ℕ, true, false, List, ◌⊎◌, codes}
 use Rattle.std.proofs.Common.{inl, inr}
-use Rattle.cyc_grammar.specs.Syntax.{Syntax, Class, one, seq, alt, shaped, after, before, is_one, or_empty}
+use Rattle.cyc_grammar.specs.Syntax.{Syntax, Class, one, seq, alt, shaped, after, before, headed, is_one, or_empty}
 use Rattle.cyc_grammar.specs.Classes.{keyword, the_end, number}
 use Rattle.general_models.specs.declared.runs.growth.Growth.{Growth}
 use Rattle.general_models.specs.declared.runs.growth.ValuePair.{ValuePair}
 use Rattle.general_models.specs.declared.runs.picks.Pick.{Pick}
 use Rattle.general_models.specs.declared.runs.picks.Pick.TheVariants.{Cell as CellPicked, Jumps}
 use Rattle.heap_syntax.specs.Words.{cyclist_word, from_word, given_word, comma, semicolon, opening, closing, last_word}
-use Rattle.heap_syntax.specs.Versions.{first_version}
-use Rattle.heap_syntax.specs.declared.version.Version.TheVariants.{Two}
 use Rattle.heap_syntax.specs.Grammar.{Any, listed}
 use Rattle.heap_syntax.specs.DefinitionGrammar.{terms, heap, definitions}
 use Rattle.heap_syntax.specs.DefinitionTrees.{Heap, Definition}
 use Rattle.heap_syntax.specs.LineGrammar.{line_word}
 use Rattle.proof_syntax.specs.Grammar.{lines}
 use Rattle.proof_syntax.specs.Trees.{Line}
+use Rattle.model_file.specs.declared.version.ModelVersion.{ModelVersion}
+use Rattle.model_file.specs.Versions.{format_of, model_version}
 use Rattle.model_file.specs.Grammar.{cell, state}
 use Rattle.model_file.specs.Trees.{Cell}
 use Rattle.run_file.specs.declared.tree.Outcome.{Outcome}
@@ -56,8 +56,8 @@ with_word = keyword (codes "with")
 unfoldable pub state_claimed : Syntax (ℕ × Heap)
 state_claimed = after from_word (seq (one number) (after given_word (before (heap (terms true)) semicolon)))
 
-unfoldable pub claim : Syntax (List Definition × (List Line × (ℕ × Heap)))
-claim = seq definitions (seq (lines Two) state_claimed)
+unfoldable pub claim : ModelVersion → Syntax (List Definition × (List Line × (ℕ × Heap)))
+claim v = seq definitions (seq (lines (format_of v)) state_claimed)
 
 -- ---- pick = hcell | "jump" | "next"
 
@@ -144,8 +144,8 @@ unfoldable pub outcome : Syntax Outcome
 outcome = shaped {A = Ends} to_outcome from_outcome Any
     (alt (is_one faults_word) faulting (alt (is_one repeats_word) repeating growing))
 
--- ---- run = "cyclist" "run" "1" ";" claim "stack" values "heap" cells "picks" picks outcome ";" "end" ";", and the end of the
--- text
+-- ---- run = "cyclist" "run" version ";" claim "stack" values "heap" cells "picks" picks outcome ";" "end" ";", and the
+-- end of the text; the versions are those of model files
 
 -- outcome ";" "end"
 unfoldable pub ending : Syntax Outcome
@@ -155,19 +155,27 @@ ending = before (before outcome semicolon) last_word
 unfoldable pub course : Syntax ((List ℕ × List Cell) × (List Pick × Outcome))
 course = seq state (after picks_word (seq picks ending))
 
+abbrev pub Contents : Type 0
+Contents = (List Definition × (List Line × (ℕ × Heap))) × ((List ℕ × List Cell) × (List Pick × Outcome))
+
+-- what stands after the version
+abbrev pub contents : ModelVersion → Syntax Contents
+contents v = after semicolon (seq (claim v) (before course semicolon))
+
 abbrev pub Parts : Type 0
-Parts = (List Definition × (List Line × (ℕ × Heap))) × ((List ℕ × List Cell) × (List Pick × Outcome))
+Parts = (v : ModelVersion) × Contents
 
 abbrev pub to_run : Parts → Run
 to_run p = record {
-  definitions = p.0.0;
-  lines = p.0.1.0;
-  line = p.0.1.1.0;
-  precondition = p.0.1.1.1;
-  stack = p.1.0.0;
-  cells = p.1.0.1;
-  picks = p.1.1.0;
-  outcome = p.1.1.1;
+  version = p.0;
+  definitions = p.1.0.0;
+  lines = p.1.0.1.0;
+  line = p.1.0.1.1.0;
+  precondition = p.1.0.1.1.1;
+  stack = p.1.1.0.0;
+  cells = p.1.1.0.1;
+  picks = p.1.1.1.0;
+  outcome = p.1.1.1.1;
 }
 
 abbrev pub claim_of : Run → List Definition × (List Line × (ℕ × Heap))
@@ -177,11 +185,10 @@ abbrev pub course_of : Run → (List ℕ × List Cell) × (List Pick × Outcome)
 course_of r = ((r.stack, r.cells), (r.picks, r.outcome))
 
 abbrev pub from_run : Run → Parts
-from_run r = (claim_of r, course_of r)
+from_run r = (r.version, (claim_of r, course_of r))
 
 unfoldable pub body : Syntax Run
-body = shaped {A = Parts} to_run from_run Any (after cyclist_word
-    (after run_word (after first_version (after semicolon (seq claim (before course semicolon))))))
+body = shaped {A = Parts} to_run from_run Any (after cyclist_word (after run_word (headed model_version contents)))
 
 unfoldable pub run : Syntax Run
 run = before body the_end

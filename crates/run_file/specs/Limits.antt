@@ -1,8 +1,9 @@
--- What of a run a run file has room for.
+-- What of a run a run file within these limits has room for.
 use Rattle.std.specs.Prelude.{ℕ, ◌^◌, ◌&&◌, Bool, true, nat_lt, nat_le, List, length}
 use Rattle.std.specs.List.{list_all}
 use Rattle.std.specs.FinMap.{entries}
-use Rattle.cyc_basics.specs.declared.limits.TheConstants.{MOST_ARGUMENTS, MOST_CELLS, MOST_VALUES}
+use Rattle.cyc_basics.specs.declared.limits.Limits.{Limits}
+use Rattle.cyc_basics.specs.declared.limits.TheConstants.{MOST_VALUES}
 use Rattle.heap_formula.specs.Cells.{Cells}
 use Rattle.general_models.specs.declared.runs.growth.Growth.{Growth}
 use Rattle.general_models.specs.declared.runs.growth.ValuePair.{ValuePair}
@@ -18,19 +19,19 @@ is_short_number n = nat_lt n (10 ^ 9)
 abbrev pub are_short_numbers : List ℕ → Bool
 are_short_numbers ns = list_all is_short_number ns
 
--- one to eight fields
-abbrev pub are_fields : List ℕ → Bool
-are_fields vs = nat_lt 0 (length vs) && nat_le (length vs) MOST_ARGUMENTS && are_short_numbers vs
+-- a field at least
+abbrev pub are_fields : Limits → List ℕ → Bool
+are_fields most vs = nat_lt 0 (length vs) && nat_le (length vs) most.arguments && are_short_numbers vs
 
-abbrev pub is_short_cell : ℕ → List ℕ → Bool
-is_short_cell a vs = is_short_number a && are_fields vs
+abbrev pub is_short_cell : Limits → ℕ → List ℕ → Bool
+is_short_cell most a vs = is_short_number a && are_fields most vs
 
-abbrev pub is_short_entry : ℕ × List ℕ → Bool
-is_short_entry e = is_short_cell e.0 e.1
+abbrev pub is_short_entry : Limits → ℕ × List ℕ → Bool
+is_short_entry most e = is_short_cell most e.0 e.1
 
-abbrev pub is_short_pick : Pick → Bool
-is_short_pick (Cell a vs) = is_short_cell a vs
-is_short_pick (Jumps b) = true
+abbrev pub is_short_pick : Limits → Pick → Bool
+is_short_pick most (Cell a vs) = is_short_cell most a vs
+is_short_pick most (Jumps b) = true
 
 abbrev pub is_short_pair : ValuePair → Bool
 is_short_pair p = is_short_number p.before && is_short_number p.after
@@ -50,9 +51,10 @@ is_short_outcome (Grows g) = is_short_growth g
 abbrev pub is_short_stack : List ℕ → Bool
 is_short_stack s = nat_le (length s) MOST_VALUES && are_short_numbers s
 
-abbrev pub is_short_heap : Cells → Bool
-is_short_heap h = nat_le (length (entries h)) MOST_CELLS && list_all is_short_entry (entries h)
+abbrev pub is_short_heap : Limits → Cells → Bool
+is_short_heap most h = nat_le (length (entries h)) most.cells && list_all (is_short_entry most) (entries h)
 
 -- a stack, a heap, picks and an outcome that a run file may have
-abbrev pub is_short_run : List ℕ → Cells → List Pick → Outcome → Bool
-is_short_run s h ps o = is_short_stack s && is_short_heap h && list_all is_short_pick ps && is_short_outcome o
+abbrev pub is_short_run : Limits → List ℕ → Cells → List Pick → Outcome → Bool
+is_short_run most s h ps o =
+    is_short_stack s && is_short_heap most h && list_all (is_short_pick most) ps && is_short_outcome o

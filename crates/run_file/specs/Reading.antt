@@ -1,6 +1,5 @@
 -- What reading a run file answers.
 use Rattle.std.specs.Prelude.{◌≡◌, ℕ, List, map, Result}
-use Rattle.cyc_basics.specs.declared.limits.TheConstants.{MOST_SPATIAL}
 use Rattle.cyc_lex.specs.declared.fault.ReadFault.{ReadFault}
 use Rattle.cyc_lex.specs.Placed.{Placed}
 use Rattle.heap_reader.specs.Reading as reading
@@ -12,11 +11,12 @@ use Rattle.model_file.specs.Values.{cells_value}
 use Rattle.run_file.specs.Trees.{Run}
 use Rattle.run_file.specs.Grammar.{run}
 use Rattle.run_file.specs.declared.file.RunFile.{RunFile}
-use Rattle.run_file.specs.Flaws.{run_flaw}
+use Rattle.run_file.specs.Flaws.{allowed, run_flaw}
 
 -- the run that a tree says
 pub record IsRunOf (tree : Run) (r : RunFile) : Type 0 where
-  pub most : r.defs.most ≡ MOST_SPATIAL
+  pub version : r.version ≡ tree.version
+  pub most : r.defs.most ≡ allowed tree
   pub definitions : r.defs.list ≡ map (definition_value (headings tree.definitions)) tree.definitions
   pub program : r.program ≡ program_value tree.lines
   pub line : r.line ≡ tree.line
@@ -40,8 +40,9 @@ Reads = reading.Reads run_files
 abbrev pub ReadsFrom : List Placed → Result RunFile ReadFault → Type 0
 ReadsFrom = reading.ReadsFrom run_files
 
--- two runs have the same claim, stack, heap and picks, and end in the same way
+-- two runs have one version, the same claim, stack, heap and picks, and end in the same way
 pub record AreSame (r s : RunFile) : Type 0 where
+  pub version : r.version ≡ s.version
   pub most : r.defs.most ≡ s.defs.most
   pub definitions : r.defs.list ≡ s.defs.list
   pub program : r.program ≡ s.program

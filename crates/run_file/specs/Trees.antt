@@ -4,6 +4,7 @@ use Rattle.general_models.specs.declared.runs.picks.Pick.{Pick}
 use Rattle.general_models.specs.declared.runs.picks.Pick.TheVariants as picks
 use Rattle.heap_syntax.specs.DefinitionTrees.{Heap, Definition, heap_of, definition_of}
 use Rattle.proof_syntax.specs.Trees.{Line}
+use Rattle.model_file.specs.declared.version.ModelVersion.{ModelVersion}
 use Rattle.model_file.specs.Trees.{Cell, cell_of}
 use Rattle.run_file.specs.declared.tree.PickTree.{PickTree}
 use Rattle.run_file.specs.declared.tree.PickTree.TheVariants.{Cell as CellPicked, Jumps}
@@ -11,6 +12,7 @@ use Rattle.run_file.specs.declared.tree.Outcome.{Outcome}
 use Rattle.run_file.specs.declared.tree.RunTree.{RunTree}
 
 pub record Run : Type 0 where
+  pub version : ModelVersion
   pub definitions : List Definition
   pub lines : List Line
   pub line : ℕ
@@ -28,6 +30,7 @@ pick_of (Jumps b) = picks.Jumps b
 
 abbrev pub run_of : RunTree → Run
 run_of r = record {
+  version = r.version;
   definitions = map definition_of r.definitions.items;
   lines = r.lines.items;
   line = r.line;

@@ -6,9 +6,9 @@ ghost use Rattle.cyc_grammar.specs.Syntax.{read_whole};
 ghost use Rattle.cyc_grammar.specs.Classes.{are_tokens};
 ghost use Rattle.cyc_grammar.specs.Faults.{Reads, IsRead};
 ghost use Rattle.cyc_grammar.specs.Giving.{Gives, words};
-ghost use Rattle.heap_syntax.specs.declared.version.Version.TheVariants.{Two};
 ghost use Rattle.heap_syntax.specs.DefinitionTrees.{heap_of};
 ghost use Rattle.proof_syntax.specs.Grammar.{lines};
+ghost use Rattle.model_file.specs.Versions.{format_of};
 ghost use Rattle.model_file.specs.Trees.{cell_of};
 ghost use Rattle.model_file.specs.Grammar.{state};
 ghost use Rattle.run_file.specs.Grammar.{state_claimed, then_step, growing, outcome, ending, body, run};
@@ -20,16 +20,20 @@ use cyc_grammar::{Cursor, Refusal, read_fault};
 use cyc_lex::{ReadFault, Token, Tokens};
 use general_models::runs::{Growth, Renaming};
 use heap_syntax::definitions::{HeapTree, definitions, heap};
-use heap_syntax::{Version, first_version};
 use model_file::syntax::CellTree;
+use model_file::{ModelVersion, read_model_version};
 use proof_syntax::{DollarVariables, LineTree};
 use std::alloc::Global;
 
 /// The lines of the program, of which there may be none.
-fn lines(alloc: Global, cursor: &mut Cursor<'_, '_>) -> Result<Vec<LineTree>, Refusal>
-    ensures { Gives (λ x. (x.items, cursor.new)) result ((lines Two).read cursor.old) }
+fn lines(
+    alloc: Global,
+    version: ModelVersion,
+    cursor: &mut Cursor<'_, '_>,
+) -> Result<Vec<LineTree>, Refusal>
+    ensures { Gives (λ x. (x.items, cursor.new)) result ((lines (format_of version)).read cursor.old) }
 {
-    heap_syntax::lines::lines(alloc, &DollarVariables, Version::Two, cursor)
+    heap_syntax::lines::lines(alloc, &DollarVariables, version.format(), cursor)
 }
 
 /// The line and the precondition that are claimed.
@@ -126,10 +130,10 @@ fn body<'a>(alloc: Global, cursor: &mut Cursor<'_, 'a>) -> Result<RunTree<'a>, R
 {
     cursor.keyword("cyclist")?;
     cursor.keyword("run")?;
-    first_version(cursor)?;
+    let version = read_model_version(cursor)?;
     cursor.symbol(";")?;
     let definitions = definitions(alloc, cursor)?;
-    let lines = lines(alloc, cursor)?;
+    let lines = lines(alloc, version, cursor)?;
     let (line, precondition) = state_claimed(alloc, cursor)?;
     let (stack, cells) = state(alloc, cursor)?;
     cursor.keyword("picks")?;
@@ -137,6 +141,7 @@ fn body<'a>(alloc: Global, cursor: &mut Cursor<'_, 'a>) -> Result<RunTree<'a>, R
     let outcome = ending(alloc, cursor)?;
     cursor.symbol(";")?;
     Ok(RunTree {
+        version,
         definitions,
         lines,
         line,

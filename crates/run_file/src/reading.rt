@@ -17,7 +17,6 @@ use cyc_lex::{ReadFault, Tokens, tokens};
 use goto_lang::Stack;
 use heap_reader::definitions::{Scope, heads};
 use heap_reader::{Heads, flaw_fault, heap_value};
-use heap_syntax::Version;
 use proof_file::front_values;
 use std::alloc::Global;
 
@@ -28,13 +27,14 @@ fn run_of_tree(alloc: Global, heads: &Heads<'_>, tree: &RunTree<'_>) -> Result<R
     requires right { first_flaw (run_of tree.now) ≡ None }
     ensures { IfOk result (IsRunOf (run_of tree.now)) }
 {
-    let front = front_values(alloc, heads, Version::Two, &tree.definitions, &tree.lines)?;
+    let front = front_values(alloc, heads, tree.version.format(), &tree.definitions, &tree.lines)?;
     let precondition = heap_value(alloc, heads, &Scope::Outside, &tree.precondition)?;
     let stack = Stack::from_vec(wide_numbers(alloc, &tree.stack)?);
     let heap = cells(alloc, &tree.cells)?;
     let picks = picks(alloc, &tree.picks)?;
     let outcome = tree.outcome.clone()?;
     Ok(RunFile {
+        version: tree.version,
         defs: front.defs,
         program: front.program,
         line: tree.line,

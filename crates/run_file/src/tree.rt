@@ -4,6 +4,7 @@ ghost use Rattle.std.specs.Prelude.{◌≡◌};
 
 use general_models::runs::Growth;
 use heap_syntax::definitions::{DefinitionTree, HeapTree};
+use model_file::ModelVersion;
 use model_file::syntax::CellTree;
 use proof_syntax::LineTree;
 use std::alloc::AllocError;
@@ -47,10 +48,11 @@ impl Clone for Outcome {
     }
 }
 
-/// A run file: a claim of termination with its definitions and lines, the values of the stack, the cells of the heap
-/// and the picks in the order of the text, and how the run ends.
+/// A run file: its version, a claim of termination with its definitions and lines, the values of the stack, the cells
+/// of the heap and the picks in the order of the text, and how the run ends.
 #[derive(Drop)]
 pub struct RunTree<'a> {
+    pub version: ModelVersion,
     pub definitions: Vec<DefinitionTree<'a>>,
     pub lines: Vec<LineTree>,
     pub line: u32,

@@ -92,8 +92,8 @@ fn picks(alloc: Global, values: &[Pick]) -> Result<Vec<PickTree>, OutOfMemory>
 
 /// The tree of a run.
 pub fn run_tree<'a>(alloc: Global, run: &'a RunFile) -> Result<RunTree<'a>, OutOfMemory>
-    ensures { IfOk result (λ t. run_of t ≡ tree_of run.now.defs.list run.now.program run.now.line run.now.precondition
-        run.now.stack run.now.heap run.now.picks.items run.now.outcome) }
+    ensures { IfOk result (λ t. run_of t ≡ tree_of run.now.version run.now.defs.list run.now.program run.now.line
+        run.now.precondition run.now.stack run.now.heap run.now.picks.items run.now.outcome) }
 {
     let defs = run.defs.as_slice();
     let definitions = definition_trees(alloc, defs)?;
@@ -104,6 +104,7 @@ pub fn run_tree<'a>(alloc: Global, run: &'a RunFile) -> Result<RunTree<'a>, OutO
     let picks = picks(alloc, &run.picks)?;
     let outcome = run.outcome.clone()?;
     Ok(RunTree {
+        version: run.version,
         definitions,
         lines,
         line: run.line,

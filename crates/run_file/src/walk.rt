@@ -17,7 +17,7 @@ ghost use Rattle.run_file.specs.Flaws.{pick_flaw, picks_flaw, from_place, first_
 ghost use Rattle.run_file.specs.Flaws.{front_flaw, state_given_flaw, run_flaw as first_flaw};
 
 use crate::tree::{PickTree, RunTree};
-use cyc_basics::limits::{MOST_ARGUMENTS, MOST_CELLS, MOST_SPATIAL, MOST_VALUES};
+use cyc_basics::limits::{Limits, MOST_VALUES};
 use cyc_lex::{IllFault, What};
 use heap_reader::definitions::{Scope, walk_definitions};
 use heap_reader::lines::walk_lines;
@@ -32,32 +32,28 @@ fn front(heads: &Heads<'_>, tree: &RunTree<'_>) -> Result<usize, Flaw>
     requires fits { from_place (run_of tree.now) < 2 ^ 64 }
     ensures { IsWalk result (front_flaw (run_of tree.now)) (from_place (run_of tree.now)) }
 {
-    let first_line = walk_definitions(heads, MOST_SPATIAL as u8, 4, &tree.definitions)?;
-    walk_lines(&ProgramVariables, first_line, &tree.lines)
+    let most = tree.version.limits();
+    let first_line = walk_definitions(heads, most, 4, &tree.definitions)?;
+    walk_lines(&ProgramVariables, most, first_line, &tree.lines)
 }
 
 /// The word `from`, the number of a line, one of so many, and the precondition there.
 fn state_claimed(
     heads: &Heads<'_>,
+    most: Limits,
     count: usize,
     at: usize,
     line: u32,
     precondition: &HeapTree<'_>,
 ) -> Result<usize, Flaw>
     requires { at + 3 + heap_span term_span (heap_of precondition.now) < 2 ^ 64 }
-    ensures { IsWalk result (state_flaw MOST_SPATIAL heads.now count at line (heap_of precondition.now))
+    ensures { IsWalk result (state_flaw most heads.now count at line (heap_of precondition.now))
         (at + 3 + heap_span term_span (heap_of precondition.now)) }
 {
     if line == 0 || line as usize > count {
         return Err(ill(IllFault::NoLine, at + 1));
     }
-    walk_heap(
-        heads,
-        &Scope::Outside,
-        MOST_SPATIAL as u8,
-        at + 3,
-        precondition,
-    )
+    walk_heap(heads, &Scope::Outside, most, at + 3, precondition)
 }
 
 /// The values of the stack and the semicolon.
@@ -75,12 +71,13 @@ fn stack(at: usize, values: &[u32]) -> Result<usize, Flaw>
 }
 
 /// The fields of a cell and the parenthesis.
-fn fields(at: usize, values: &[u32]) -> Result<usize, Flaw>
+fn fields(most: Limits, at: usize, values: &[u32]) -> Result<usize, Flaw>
     requires { at + numbers_span values.now < 2 ^ 64 }
-    ensures { IsWalk result (fields_flaw at values.now) (at + numbers_span values.now) }
+    ensures { IsWalk result (fields_flaw most at values.now) (at + numbers_span values.now) }
 {
-    if values.len() > MOST_ARGUMENTS {
-        return Err(over(What::Arguments, at + 16));
+    let arguments = most.arguments as usize;
+    if values.len() > arguments {
+        return Err(over(What::Arguments, at + 2 * arguments));
     }
     Ok(at + 2 * values.len())
 }
@@ -112,74 +109,82 @@ fn address(cells: &[CellTree], n: usize, at: usize, address: u32) -> Result<(), 
 }
 
 /// The cell before which n of all stand.
-fn cell(cells: &[CellTree], n: usize, at: usize, tree: &CellTree) -> Result<usize, Flaw>
+fn cell(
+    most: Limits,
+    cells: &[CellTree],
+    n: usize,
+    at: usize,
+    tree: &CellTree,
+) -> Result<usize, Flaw>
     requires there { n < length cells.now }
     requires fits { at + cell_span (cell_of tree.now) < 2 ^ 64 }
-    ensures { IsWalk result (cell_flaw (map cell_of cells.now) n at (cell_of tree.now))
+    ensures { IsWalk result (cell_flaw most (map cell_of cells.now) n at (cell_of tree.now))
         (at + cell_span (cell_of tree.now)) }
 {
     address(cells, n, at, tree.address)?;
-    if n >= MOST_CELLS {
+    if n >= most.cells as usize {
         return Err(over(What::Cells, at));
     }
-    let behind = fields(at + 3, &tree.fields)?;
+    let behind = fields(most, at + 3, &tree.fields)?;
     Ok(behind + 1)
 }
 
-fn some_cells(at: usize, trees: &[CellTree]) -> Result<usize, Flaw>
+fn some_cells(most: Limits, at: usize, trees: &[CellTree]) -> Result<usize, Flaw>
     requires { at + total cell_span (map cell_of trees.now) < 2 ^ 64 }
-    ensures { IsWalk result (cells_flaw at (map cell_of trees.now)) (at + total cell_span (map cell_of trees.now)) }
+    ensures { IsWalk result (cells_flaw most at (map cell_of trees.now))
+        (at + total cell_span (map cell_of trees.now)) }
 {
     let mut next = at;
     for (n, tree) in trees.iter().enumerate() {
-        next = cell(trees, n, next, tree)?;
+        next = cell(most, trees, n, next, tree)?;
     }
     Ok(next)
 }
 
 /// The cells of the heap and the semicolon.
-fn cells(at: usize, trees: &[CellTree]) -> Result<usize, Flaw>
+fn cells(most: Limits, at: usize, trees: &[CellTree]) -> Result<usize, Flaw>
     requires { at + cells_span (map cell_of trees.now) < 2 ^ 64 }
-    ensures { IsWalk result (cells_flaw at (map cell_of trees.now)) (at + cells_span (map cell_of trees.now)) }
+    ensures { IsWalk result (cells_flaw most at (map cell_of trees.now)) (at + cells_span (map cell_of trees.now)) }
 {
     match trees {
         [] => Ok(at + 1),
-        _ => some_cells(at, trees),
+        _ => some_cells(most, at, trees),
     }
 }
 
-fn pick(at: usize, tree: &PickTree) -> Result<usize, Flaw>
+fn pick(most: Limits, at: usize, tree: &PickTree) -> Result<usize, Flaw>
     requires { at + pick_span (pick_of tree.now) < 2 ^ 64 }
-    ensures { IsWalk result (pick_flaw at (pick_of tree.now)) (at + pick_span (pick_of tree.now)) }
+    ensures { IsWalk result (pick_flaw most at (pick_of tree.now)) (at + pick_span (pick_of tree.now)) }
 {
     match tree {
         PickTree::Cell(cell) => {
-            let behind = fields(at + 3, &cell.fields)?;
+            let behind = fields(most, at + 3, &cell.fields)?;
             Ok(behind + 1)
         }
         PickTree::Jumps(_) => Ok(at + 2),
     }
 }
 
-fn some_picks(at: usize, trees: &[PickTree]) -> Result<usize, Flaw>
+fn some_picks(most: Limits, at: usize, trees: &[PickTree]) -> Result<usize, Flaw>
     requires { at + total pick_span (map pick_of trees.now) < 2 ^ 64 }
-    ensures { IsWalk result (picks_flaw at (map pick_of trees.now)) (at + total pick_span (map pick_of trees.now)) }
+    ensures { IsWalk result (picks_flaw most at (map pick_of trees.now))
+        (at + total pick_span (map pick_of trees.now)) }
 {
     let mut next = at;
     for tree in trees {
-        next = pick(next, tree)?;
+        next = pick(most, next, tree)?;
     }
     Ok(next)
 }
 
 /// The picks and the semicolon.
-fn picks(at: usize, trees: &[PickTree]) -> Result<usize, Flaw>
+fn picks(most: Limits, at: usize, trees: &[PickTree]) -> Result<usize, Flaw>
     requires { at + picks_span (map pick_of trees.now) < 2 ^ 64 }
-    ensures { IsWalk result (picks_flaw at (map pick_of trees.now)) (at + picks_span (map pick_of trees.now)) }
+    ensures { IsWalk result (picks_flaw most at (map pick_of trees.now)) (at + picks_span (map pick_of trees.now)) }
 {
     match trees {
         [] => Ok(at + 1),
-        _ => some_picks(at, trees),
+        _ => some_picks(most, at, trees),
     }
 }
 
@@ -190,7 +195,7 @@ fn state_given(at: usize, tree: &RunTree<'_>) -> Result<usize, Flaw>
     ensures { IsWalk result (state_given_flaw (run_of tree.now)) (first_pick (run_of tree.now)) }
 {
     let behind_stack = stack(at + 1, &tree.stack)?;
-    let behind_cells = cells(behind_stack + 1, &tree.cells)?;
+    let behind_cells = cells(tree.version.limits(), behind_stack + 1, &tree.cells)?;
     Ok(behind_cells + 1)
 }
 
@@ -200,10 +205,18 @@ fn parts(heads: &Heads<'_>, tree: &RunTree<'_>) -> Result<usize, Flaw>
     requires fits { outcome_place (run_of tree.now) < 2 ^ 64 }
     ensures { IsWalk result (first_flaw (run_of tree.now)) (outcome_place (run_of tree.now)) }
 {
+    let most = tree.version.limits();
     let from = front(heads, tree)?;
-    let behind_claim = state_claimed(heads, tree.lines.len(), from, tree.line, &tree.precondition)?;
+    let behind_claim = state_claimed(
+        heads,
+        most,
+        tree.lines.len(),
+        from,
+        tree.line,
+        &tree.precondition,
+    )?;
     let first_pick = state_given(behind_claim, tree)?;
-    picks(first_pick, &tree.picks)
+    picks(most, first_pick, &tree.picks)
 }
 
 /// The first flaw of a run file, by its token; the heads are those of its definitions.

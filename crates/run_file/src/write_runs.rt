@@ -4,9 +4,9 @@ ghost use Rattle.std.specs.Prelude.{◌≡◌, map, OnOk, IfOk};
 ghost use Rattle.cyc_lex.specs.Spacing.{text_of};
 ghost use Rattle.cyc_lex.specs.Spelling.{Spells};
 ghost use Rattle.cyc_lex.specs.Writing.{write_all};
-ghost use Rattle.heap_syntax.specs.declared.version.Version.TheVariants.{Two};
 ghost use Rattle.heap_syntax.specs.DefinitionTrees.{heap_of};
 ghost use Rattle.proof_syntax.specs.Grammar.{lines};
+ghost use Rattle.model_file.specs.Versions.{format_of};
 ghost use Rattle.model_file.specs.Grammar.{state};
 ghost use Rattle.model_file.specs.Trees.{cell_of};
 ghost use Rattle.run_file.specs.Grammar.{state_claimed, claim, claim_of, then_step, growing, outcome, ending, course};
@@ -20,17 +20,21 @@ use cyc_lex::WordWriter;
 use general_models::runs::Growth;
 use heap_syntax::definitions::HeapTree;
 use heap_syntax::writing::{write_definitions, write_heap};
-use heap_syntax::{Version, write_first_version};
 use model_file::syntax::CellTree;
+use model_file::{ModelVersion, write_model_version};
 use proof_syntax::{DollarVariables, LineTree};
 use std::alloc::Global;
 
 /// Writes the lines of the program.
-fn write_lines(trees: &[LineTree], writer: &mut WordWriter) -> Result<(), OutOfMemory>
-    requires { (lines Two).fits trees.now }
-    ensures { OnOk result (writer.new ≡ write_all writer.old ((lines Two).words trees.now)) }
+fn write_lines(
+    version: ModelVersion,
+    trees: &[LineTree],
+    writer: &mut WordWriter,
+) -> Result<(), OutOfMemory>
+    requires { (lines (format_of version)).fits trees.now }
+    ensures { OnOk result (writer.new ≡ write_all writer.old ((lines (format_of version)).words trees.now)) }
 {
-    proof_syntax::writing::write_lines(&DollarVariables, Version::Two, trees, writer)
+    proof_syntax::writing::write_lines(&DollarVariables, version.format(), trees, writer)
 }
 
 #[tactic(auto, using(cyc_lex::proofs::WritingLaws::write_all_on), unfolding(crate::specs::Grammar::state_claimed, cyc_lex::specs::Writing::write_all))]
@@ -53,11 +57,12 @@ fn write_state_claimed(
 /// Writes the definitions, the lines, and what is claimed.
 #[tactic(auto, using(cyc_lex::proofs::WritingLaws::write_all_on), unfolding(crate::specs::Grammar::claim))]
 fn write_claim(tree: &RunTree<'_>, writer: &mut WordWriter) -> Result<(), OutOfMemory>
-    requires { claim.fits (claim_of (run_of tree.now)) }
-    ensures { OnOk result (writer.new ≡ write_all writer.old (claim.words (claim_of (run_of tree.now)))) }
+    requires { (claim tree.now.version).fits (claim_of (run_of tree.now)) }
+    ensures { OnOk result (writer.new
+        ≡ write_all writer.old ((claim tree.now.version).words (claim_of (run_of tree.now)))) }
 {
     write_definitions(&tree.definitions, writer)?;
-    write_lines(&tree.lines, writer)?;
+    write_lines(tree.version, &tree.lines, writer)?;
     write_state_claimed(tree.line, &tree.precondition, writer)
 }
 
@@ -148,7 +153,7 @@ fn write_body(tree: &RunTree<'_>, writer: &mut WordWriter) -> Result<(), OutOfMe
 {
     writer.name("cyclist")?;
     writer.name("run")?;
-    write_first_version(writer)?;
+    write_model_version(tree.version, writer)?;
     writer.symbol(";")?;
     write_claim(tree, writer)?;
     write_course(tree, writer)?;

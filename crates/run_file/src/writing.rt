@@ -15,8 +15,8 @@ use std::alloc::Global;
 /// between neighbours but where the format has none, and a line feed after each `;`.
 pub fn write_run(alloc: Global, run: &RunFile) -> Result<Vec<u8>, OutOfMemory>
     ensures text { IfOk result (λ bytes. bytes.items
-        ≡ text_of_run run.now.defs.list run.now.program run.now.line run.now.precondition run.now.stack run.now.heap
-        run.now.picks.items run.now.outcome) }
+        ≡ text_of_run run.now.version run.now.defs.list run.now.program run.now.line run.now.precondition
+        run.now.stack run.now.heap run.now.picks.items run.now.outcome) }
     ensures spells { IfOk result (λ bytes. IsRead bytes.items (Ok run.now)) }
 {
     let tree = run_tree(alloc, run)?;
@@ -26,7 +26,8 @@ pub fn write_run(alloc: Global, run: &RunFile) -> Result<Vec<u8>, OutOfMemory>
 /// Whatever is read of a run's text is that run, unless memory runs out. The function does nothing.
 pub fn written_runs_are_read_again()
     ensures { (r : TheRun) (bytes : List ℕ) (answer : Result TheRun ReadFault)
-        → bytes ≡ text_of_run r.defs.list r.program r.line r.precondition r.stack r.heap r.picks.items r.outcome
+        → bytes ≡ text_of_run r.version r.defs.list r.program r.line r.precondition r.stack r.heap r.picks.items
+        r.outcome
         → Reads bytes answer → IsReadAgain r answer }
 {}
 

@@ -1,7 +1,6 @@
 -- The goal and the definitions that a script becomes.
 use Rattle.std.specs.Prelude.{◌≡◌, ◌≢◌, ℕ, ◌≤◌, false, List, [], ◌∷◌, ◌++◌, map, length, slice_get, Some}
 use Rattle.std.specs.List.{AllZip}
-use Rattle.cyc_basics.specs.declared.limits.TheConstants.{MOST_CASES}
 use Rattle.heap_formula.specs.declared.terms.Term.TheVariants.{Univ}
 use Rattle.heap_formula.specs.declared.atoms.Spatial.TheVariants.{Pred}
 use Rattle.heap_formula.specs.declared.judgements.Judgement.{Judgement}
@@ -9,6 +8,8 @@ use Rattle.heap_formula.specs.declared.judgements.Judgement.TheVariants.{Entail}
 use Rattle.heap_formula.specs.Symbolic.{SymbolicHeap}
 use Rattle.heap_formula.specs.Definitions.{Definition}
 use Rattle.heap_formula.specs.Words.{Each}
+use Rattle.heap_syntax.specs.Versions.{limits}
+use Rattle.heap_syntax.specs.declared.version.Version.TheVariants.{Two}
 use Rattle.script_formulas.specs.declared.script.Script.{Script}
 use Rattle.script_formulas.specs.declared.script.Predicate.{Predicate}
 use Rattle.script_formulas.specs.declared.goals.heaps.Numbers.{Numbers}
@@ -26,7 +27,7 @@ use Rattle.script_formulas.specs.Translating.{IsHeapOf, AreHeapsOf, AreDisjuncts
 -- the definition has calls of others that have them, of which nothing is said here
 abbrev pub AreCasesOf : List SymbolicHeap → List SymbolicHeap → Type 0
 AreCasesOf [] cases = cases ≡ impossible ∷ []
-AreCasesOf (h ∷ hs) cases = length (h ∷ hs) ≤ MOST_CASES → cases ≡ h ∷ hs
+AreCasesOf (h ∷ hs) cases = length (h ∷ hs) ≤ (limits Two).cases → cases ≡ h ∷ hs
 
 abbrev pub ClosedCases : List SymbolicCase → Type 0
 ClosedCases cs = Each (λ c. c.any_heap ≡ false) cs

@@ -5,6 +5,7 @@
 pub mod cases;
 mod formula;
 pub mod goals;
+mod limits;
 pub mod problems;
 mod script;
 

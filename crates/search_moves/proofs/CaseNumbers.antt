@@ -3,6 +3,7 @@ use Rattle.std.proofs.Common.{◌≡◌, ℕ, zero, suc, ◌+◌, ◌≤◌, Boo
 use Rattle.std.proofs.Common.{get_or, Option, Some, refl, ap, ◌∙◌, arith, length-append, leb-true, le-leb}
 use Rattle.std.specs.Prelude.{slice_get, slice_index_or, nat_le, Ok}
 use Rattle.std.proofs.lemmas.List.{length-map}
+use Rattle.cyc_basics.specs.declared.limits.Limits.{Limits}
 use Rattle.heap_formula.specs.declared.terms.Term.{Term}
 use Rattle.heap_formula.specs.declared.terms.Term.TheVariants.{Nil, Univ, Exist}
 use Rattle.heap_formula.specs.declared.atoms.Pure.{Pure}
@@ -126,22 +127,23 @@ four true true a b = refl
 four true false a b = cc
 four false q a b = cc
 
-pub case_goes : (most : ℕ) (a b case : SymbolicHeap) (k q : ℕ) (ts : List Term)
+pub case_goes : (most : Limits) (a b case : SymbolicHeap) (k q : ℕ) (ts : List Term)
     → slice_get b.spatial k ≡ Some (Pred q ts) → has_room_for most a b case ≡ true
     → has_premises (limited most (one (with_right a (unfolded b k (in_heap (right_term ts (heap_exists b)) case)
     ∷ [])))) ≡ true
 case_goes most a b case k q ts at room =
-    let r0 = and_parts (is_short most a) (nat_le (length b.pure + length case.pure) 64 &&
-    (nat_le (length b.spatial + length case.spatial) (most + 1) &&
+    let r0 = and_parts (is_short most a) (nat_le (length b.pure + length case.pure) most.pure &&
+    (nat_le (length b.spatial + length case.spatial) (most.spatial + 1) &&
     (nat_le (heap_numbers a) 65535 && nat_le (heap_numbers b + heap_numbers case) 65535))) room in
-    let r1 = and_parts (nat_le (length b.pure + length case.pure) 64)
-    (nat_le (length b.spatial + length case.spatial) (most + 1) &&
+    let r1 = and_parts (nat_le (length b.pure + length case.pure) most.pure)
+    (nat_le (length b.spatial + length case.spatial) (most.spatial + 1) &&
     (nat_le (heap_numbers a) 65535 && nat_le (heap_numbers b + heap_numbers case) 65535)) r0.1 in
-    let r2 = and_parts (nat_le (length b.spatial + length case.spatial) (most + 1))
+    let r2 = and_parts (nat_le (length b.spatial + length case.spatial) (most.spatial + 1))
     (nat_le (heap_numbers a) 65535 && nat_le (heap_numbers b + heap_numbers case) 65535) r1.1 in
     let r3 = and_parts (nat_le (heap_numbers a) 65535) (nat_le (heap_numbers b + heap_numbers case) 65535) r2.1 in
     answered _ _ _ _ _ (four (is_short most a) (is_short most h) r0.0
-    (and_from (nat_le (length h.pure) 64) (nat_le (length h.spatial) most) (le-leb _ _ (pures (leb-true _ _ r1.0)))
+    (and_from (nat_le (length h.pure) most.pure) (nat_le (length h.spatial) most.spatial)
+    (le-leb _ _ (pures (leb-true _ _ r1.0)))
     (le-leb _ _ (spatials (leb-true _ _ r2.0)))))
     (four (has_numbers a) (has_numbers h) r3.0 (le-leb _ _ (numbers (leb-true _ _ r3.1))))
   where
@@ -151,12 +153,12 @@ case_goes most a b case k q ts at room =
     h : SymbolicHeap
     h = unfolded b k (in_heap g case)
 
-    pures : length b.pure + length case.pure ≤ 64 → length (b.pure ++ map (in_pure g) case.pure) ≤ 64
+    pures : length b.pure + length case.pure ≤ most.pure → length (b.pure ++ map (in_pure g) case.pure) ≤ most.pure
     pures le = let l = length-append b.pure (map (in_pure g) case.pure) in let n = length-map case.pure (in_pure g) in
         omega arith
 
-    spatials : length b.spatial + length case.spatial ≤ most + 1
-        → length (without k b.spatial ++ map (in_spatial g) case.spatial) ≤ most
+    spatials : length b.spatial + length case.spatial ≤ most.spatial + 1
+        → length (without k b.spatial ++ map (in_spatial g) case.spatial) ≤ most.spatial
     spatials le =
         let l = length-append (without k b.spatial) (map (in_spatial g) case.spatial) in
         let n = length-map case.spatial (in_spatial g) in
@@ -175,7 +177,7 @@ case_goes most a b case k q ts at room =
         (spatials_in g (heap_numbers case) 65535 f case.spatial (omega arith)) in
         omega arith
 
-pub room_goes : (most : ℕ) (ds : List Definition) (j : Judgement) (a : SymbolicHeap) (bs : List SymbolicHeap)
+pub room_goes : (most : Limits) (ds : List Definition) (j : Judgement) (a : SymbolicHeap) (bs : List SymbolicHeap)
     (b case : SymbolicHeap) (k q c : ℕ) (ts : List Term) → j ≡ Entail a bs → bs ≡ b ∷ []
     → slice_get b.spatial k ≡ Some (Pred q ts) → slice_get (cases_of ds q) c ≡ Some case
     → has_room_for most a b case ≡ true → has_premises (unfold_right_answer most ds j k c) ≡ true

@@ -3,6 +3,7 @@ use Rattle.std.proofs.Common.{◌≡◌, ℕ, ◌+◌, ◌≤◌, true, ◌&&◌
 use Rattle.std.proofs.Common.{◌∙◌, subst, arith, length-append, leb-true, le-leb}
 use Rattle.std.specs.Prelude.{max, slice_get, nat_le}
 use Rattle.std.proofs.lemmas.List.{length-map}
+use Rattle.cyc_basics.specs.declared.limits.Limits.{Limits}
 use Rattle.heap_formula.specs.declared.terms.Term.{Term}
 use Rattle.heap_formula.specs.declared.terms.Term.TheVariants.{Nil, Univ, Exist}
 use Rattle.heap_formula.specs.declared.atoms.Pure.{Pure}
@@ -65,7 +66,7 @@ antecedent_below (Runs i a) = omega arith
 
 -- ---- the heaps of a premise
 
-short_heaps : (most : ℕ) (j : Judgement) (h : SymbolicHeap) → is_short most h ≡ true
+short_heaps : (most : Limits) (j : Judgement) (h : SymbolicHeap) → is_short most h ≡ true
     → list_all (is_short most) (disjuncts j) ≡ true → list_all (is_short most) (heaps_of (with_antecedent j h)) ≡ true
 short_heaps most (Entail a bs) h s d = and_from (is_short most h) (list_all (is_short most) bs) s d
 short_heaps most (Runs i a) h s d = and_from (is_short most h) true s refl
@@ -88,18 +89,18 @@ left_number ts f m n h k Nil l = omega arith
 left_number ts f m n h k (Univ i) l = argument_number n ts i h
 left_number ts f m n h k (Exist i) l = omega arith
 
-module _ (most p : ℕ) (j : Judgement) (k q : ℕ) (ts : List Term)
+module _ (most : Limits) (p : ℕ) (j : Judgement) (k q : ℕ) (ts : List Term)
     (at : slice_get (antecedent j).spatial k ≡ Some (Pred q ts)) where
   abbrev g : Term → Term
   g = case_term ts (fresh_number p j)
 
-  pures : (case : SymbolicHeap) → length (antecedent j).pure + length case.pure ≤ 64
-      → length ((antecedent j).pure ++ map (in_pure g) case.pure) ≤ 64
+  pures : (case : SymbolicHeap) → length (antecedent j).pure + length case.pure ≤ most.pure
+      → length ((antecedent j).pure ++ map (in_pure g) case.pure) ≤ most.pure
   pures case le = let l = length-append (antecedent j).pure (map (in_pure g) case.pure) in
       let n = length-map case.pure (in_pure g) in omega arith
 
-  spatials : (case : SymbolicHeap) → length (antecedent j).spatial + length case.spatial ≤ most + 1
-      → length (without k (antecedent j).spatial ++ map (in_spatial g) case.spatial) ≤ most
+  spatials : (case : SymbolicHeap) → length (antecedent j).spatial + length case.spatial ≤ most.spatial + 1
+      → length (without k (antecedent j).spatial ++ map (in_spatial g) case.spatial) ≤ most.spatial
   spatials case le =
       let l = length-append (without k (antecedent j).spatial) (map (in_spatial g) case.spatial) in
       let n = length-map case.spatial (in_spatial g) in
@@ -129,13 +130,14 @@ module _ (most p : ℕ) (j : Judgement) (k q : ℕ) (ts : List Term)
       let h = unfolded (antecedent j) k (in_heap g c) in
       let room = and_parts (has_room_from most (max p (judgement_numbers j)) (antecedent j) c)
       (list_all (has_room_from most (max p (judgement_numbers j)) (antecedent j)) cs) e in
-      let r0 = and_parts (nat_le (length (antecedent j).pure + length c.pure) 64)
-      (nat_le (length (antecedent j).spatial + length c.spatial) (most + 1) && nat_le
+      let r0 = and_parts (nat_le (length (antecedent j).pure + length c.pure) most.pure)
+      (nat_le (length (antecedent j).spatial + length c.spatial) (most.spatial + 1) && nat_le
       (max p (judgement_numbers j) + heap_numbers c) 65535) room.0 in
-      let r1 = and_parts (nat_le (length (antecedent j).spatial + length c.spatial) (most + 1))
+      let r1 = and_parts (nat_le (length (antecedent j).spatial + length c.spatial) (most.spatial + 1))
       (nat_le (max p (judgement_numbers j) + heap_numbers c) 65535) r0.1 in
       let rest = cases_go short cs room.1 in
-      let few : is_short most h ≡ true = and_from (nat_le (length h.pure) 64) (nat_le (length h.spatial) most)
+      let few : is_short most h ≡ true = and_from (nat_le (length h.pure) most.pure)
+      (nat_le (length h.spatial) most.spatial)
       (le-leb _ _ (pures c (leb-true _ _ r0.0))) (le-leb _ _ (spatials c (leb-true _ _ r1.0))) in
       let le : max p (judgement_numbers j) + heap_numbers c ≤ 65535 = leb-true _ _ r1.1 in (
         and_from (list_all (is_short most) (heaps_of (with_antecedent j h))) _ (short_heaps most j h few short) rest.0,
@@ -143,7 +145,7 @@ module _ (most p : ℕ) (j : Judgement) (k q : ℕ) (ts : List Term)
             (numbered_premise j h (numbers c le) (omega arith)) rest.1,
       )
 
-pub left_goes : (most : ℕ) (ds : List Definition) (p : ℕ) (j : Judgement) (k q : ℕ) (ts : List Term)
+pub left_goes : (most : Limits) (ds : List Definition) (p : ℕ) (j : Judgement) (k q : ℕ) (ts : List Term)
     → slice_get (antecedent j).spatial k ≡ Some (Pred q ts) → has_room_left most p j (cases_of ds q) ≡ true
     → has_premises (unfold_answer most ds p j k) ≡ true
 left_goes most ds p j k q ts at room =
@@ -156,9 +158,10 @@ left_goes most ds p j k q ts at room =
     (each_heap has_numbers (map (unfold_premise j k ts (fresh_number p j)) (cases_of ds q)))
     TooManyAtoms NoFreshVariable (map (unfold_premise j k ts (fresh_number p j)) (cases_of ds q)) go.0 go.1
 
-pub parts_go : (most : ℕ) (ds : List Definition) (p : ℕ) (j : Judgement) (k q : ℕ) (ts : List Term) (a : SymbolicHeap)
-    (n few room : ℕ) (cases : List SymbolicHeap) → a ≡ antecedent j → n ≡ max p (judgement_numbers j) → few ≡ most
-    → room ≡ most → cases ≡ cases_of ds q → slice_get a.spatial k ≡ Some (Pred q ts)
+pub parts_go : (most : Limits) (ds : List Definition) (p : ℕ) (j : Judgement) (k q : ℕ) (ts : List Term)
+    (a : SymbolicHeap) (n : ℕ) (few room : Limits) (cases : List SymbolicHeap) → a ≡ antecedent j
+    → n ≡ max p (judgement_numbers j) → few ≡ most → room ≡ most → cases ≡ cases_of ds q
+    → slice_get a.spatial k ≡ Some (Pred q ts)
     → list_all (is_short few) (disjuncts j) ≡ true → list_all (has_room_from room n a) cases ≡ true
     → has_premises (unfold_answer most ds p j k) ≡ true
 parts_go most ds p j k q ts a n few room cases left number is_few is_room found at short fits =
@@ -167,9 +170,9 @@ parts_go most ds p j k q ts a n few room cases left number is_few is_room found 
     in
     let in_number = subst (λ (i : ℕ). list_all (has_room_from room i (antecedent j)) (cases_of ds q) ≡ true)
     number in_left in
-    let in_room = subst (λ (i : ℕ). list_all (has_room_from i (max p (judgement_numbers j)) (antecedent j))
+    let in_room = subst (λ (i : Limits). list_all (has_room_from i (max p (judgement_numbers j)) (antecedent j))
     (cases_of ds q) ≡ true) is_room in_number in
     left_goes most ds p j k q ts (subst (λ (b : SymbolicHeap). slice_get b.spatial k ≡ Some (Pred q ts)) left at)
     (and_from (list_all (is_short most) (disjuncts j))
     (list_all (has_room_from most (max p (judgement_numbers j)) (antecedent j)) (cases_of ds q))
-    (subst (λ (i : ℕ). list_all (is_short i) (disjuncts j) ≡ true) is_few short) in_room)
+    (subst (λ (i : Limits). list_all (is_short i) (disjuncts j) ≡ true) is_few short) in_room)

@@ -4,6 +4,7 @@ use Rattle.std.proofs.Common.{None, slice_get, refl, sym, ap, subst, ◌∙◌, 
 use Rattle.std.specs.Prelude.{nat_lt, nat_eq, max, if◌then◌else◌, Ok}
 use Rattle.std.specs.List.{filter, list_all}
 use Rattle.std.proofs.lemmas.Bool.{both_ways, and_parts}
+use Rattle.cyc_basics.specs.declared.limits.Limits.{Limits}
 use Rattle.heap_formula.specs.declared.terms.Term.{Term}
 use Rattle.heap_formula.specs.declared.terms.Term.TheVariants.{Nil, Univ, Exist}
 use Rattle.heap_formula.specs.declared.atoms.Pure.{Pure}
@@ -58,7 +59,7 @@ finds_some : {X : Type 0} (o : Option X) (f : RuleFault) (rest : X → Answer) �
 finds_some None f rest h = refl
 finds_some (Some x) f rest h = h x refl
 
-limited_some : (most : ℕ) (p : Premise) (ps : List Premise) → HasSome (limited most (p ∷ ps))
+limited_some : (most : Limits) (p : Premise) (ps : List Premise) → HasSome (limited most (p ∷ ps))
 limited_some most p ps =
     needs_some (each_heap (is_short most) (p ∷ ps)) TooManyAtoms
     (needs (each_heap has_numbers (p ∷ ps)) NoFreshVariable (Ok (p ∷ ps)))
@@ -100,7 +101,7 @@ rewrite_some p j k side (Neq t u) = refl
 rewrite_some p j k side (Eq t u) = either_some (same_term t u) _ _ refl
     (rewrite_side_some p j k (Eq t u) (named side t u) (unnamed side t u))
 
-cases_some : {X : Type 0} (most : ℕ) (f : X → Premise) (xs : List X) → nat_lt 0 (length xs) ≡ true
+cases_some : {X : Type 0} (most : Limits) (f : X → Premise) (xs : List X) → nat_lt 0 (length xs) ≡ true
     → HasSome (limited most (map f xs))
 cases_some most f [] h = absurd (both_ways false refl h)
 cases_some most f (x ∷ xs) h = limited_some most (f x) (map f xs)
@@ -111,12 +112,12 @@ module _ (t : Theory) (j : Judgement) where
   left_open Absurd h = absurd (both_ways false refl h)
   left_open (Rewrite k side) h = finds_some (slice_get (antecedent j).pure k) _
       (rewrite_atom (variables_of t.lines j) j k side) (λ x at. rewrite_some (variables_of t.lines j) j k side x)
-  left_open (Split u v) h = limited_some 32 (with_pure j (Eq u v)) (with_pure j (Neq u v) ∷ [])
+  left_open (Split u v) h = limited_some t.most (with_pure j (Eq u v)) (with_pure j (Neq u v) ∷ [])
   left_open (Distinct i k) h =
       finds_some (slice_get (antecedent j).spatial i) _ _
       (λ x at. finds_some (slice_get (antecedent j).spatial k) _ _
       (λ y at'. finds_some (address_of x) _ _ (λ u is. finds_some (address_of y) _ _
-      (λ v is'. limited_some 32 (with_pure j (Neq u (if nat_eq i k then Nil else v))) []))))
+      (λ v is'. limited_some t.most (with_pure j (Neq u (if nat_eq i k then Nil else v))) []))))
   left_open (Weaken k) h = finds_some (slice_get (antecedent j).pure k) _ _ (λ x at. refl)
   left_open (Unfold k) h =
       finds_some (slice_get (antecedent j).spatial k) _ _

@@ -1,5 +1,6 @@
 -- Which rules have no fault.
-use Rattle.std.specs.Prelude.{ℕ, List, Bool, true, false, Ok, Err}
+use Rattle.std.specs.Prelude.{List, Bool, true, false, Ok, Err}
+use Rattle.cyc_basics.specs.declared.limits.Limits.{Limits}
 use Rattle.heap_formula.specs.declared.commands.Command.{Command}
 use Rattle.heap_formula.specs.declared.judgements.Judgement.{Judgement}
 use Rattle.heap_formula.specs.declared.proof_rules.Rule.{Rule}
@@ -7,9 +8,9 @@ use Rattle.heap_formula.specs.Definitions.{Definition}
 use Rattle.rule_table.specs.Answer.{Answer}
 use Rattle.rule_table.specs.RuleBook.{rule_answer}
 
--- what a problem assumes: the greatest number of spatial atoms of a heap, the definitions, and the program
+-- what a problem assumes: the limits of its version, the definitions, and the program
 pub record Theory : Type 0 where
-  pub most : ℕ
+  pub most : Limits
   pub definitions : List Definition
   pub lines : List Command
 

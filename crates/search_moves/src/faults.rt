@@ -11,7 +11,7 @@ ghost use Rattle.search_moves.specs.Rooms.{has_room_for as case_has_room, has_ro
 ghost use Rattle.search_moves.specs.Rooms.{judgement_numbers};
 ghost use Rattle.search_moves.specs.Trying.{has_premises};
 
-use cyc_basics::limits::{MOST_PURE, VARIABLE_NUMBERS};
+use cyc_basics::limits::{Limits, VARIABLE_NUMBERS};
 use goto_lang::Program;
 use heap_formula::{Heap, Judgement, Spatial, Variables, bound_in_heap};
 use pred_defs::Defs;
@@ -95,12 +95,12 @@ fn case_at(cases: &[Heap], c: u32) -> Option<&Heap>
     cases.get(c as usize)
 }
 
-fn has_room_for(most: u8, a: &Heap, b: &Heap, case: &Heap) -> bool
+fn has_room_for(most: Limits, a: &Heap, b: &Heap, case: &Heap) -> bool
     ensures { result ≡ case_has_room most a.now b.now case.now }
 {
     is_short(most, a)
-        && b.pure().len() + case.pure().len() <= MOST_PURE
-        && b.spatial().len() + case.spatial().len() <= most as usize + 1
+        && b.pure().len() + case.pure().len() <= most.pure as usize
+        && b.spatial().len() + case.spatial().len() <= most.spatial as usize + 1
         && bound_in_heap(Variables::All, a) <= VARIABLE_NUMBERS
         && bound_in_heap(Variables::All, b) + bound_in_heap(Variables::All, case)
             <= VARIABLE_NUMBERS
@@ -149,16 +149,16 @@ fn numbers_in(judgement: &Judgement) -> u32
     }
 }
 
-fn has_room_from(most: u8, number: u32, a: &Heap, case: &Heap) -> bool
+fn has_room_from(most: Limits, number: u32, a: &Heap, case: &Heap) -> bool
     requires { number ≤ 65536 }
     ensures { result ≡ case_has_room_from most number a.now case.now }
 {
-    a.pure().len() + case.pure().len() <= MOST_PURE
-        && a.spatial().len() + case.spatial().len() <= most as usize + 1
+    a.pure().len() + case.pure().len() <= most.pure as usize
+        && a.spatial().len() + case.spatial().len() <= most.spatial as usize + 1
         && number + bound_in_heap(Variables::All, case) <= VARIABLE_NUMBERS
 }
 
-fn have_room_from(most: u8, number: u32, a: &Heap, cases: &[Heap]) -> bool
+fn have_room_from(most: Limits, number: u32, a: &Heap, cases: &[Heap]) -> bool
     requires { number ≤ 65536 }
     ensures { result ≡ list_all (case_has_room_from most number a.now) cases.now }
 {

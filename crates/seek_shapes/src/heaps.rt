@@ -8,7 +8,7 @@ use std::alloc::Global;
 /// The number from which on variables are taken as those of an unfolded case.
 const FRESH: u32 = 60_000;
 
-/// A heap of these atoms, unless they are too many.
+/// A heap of these atoms, unless they are too many for one of any version of the formats.
 pub fn heap_of(pure: Vec<Pure>, spatial: Vec<Spatial>) -> Option<Heap> {
     if pure.len() <= MOST_PURE && spatial.len() <= MOST_SPATIAL {
         Some(Heap::from_lists(pure, spatial))
@@ -17,7 +17,7 @@ pub fn heap_of(pure: Vec<Pure>, spatial: Vec<Spatial>) -> Option<Heap> {
     }
 }
 
-/// A place in a list as a number of a rule; the lists have at most 64 entries.
+/// A place in a list as a number of a rule; the lists have at most 1,024 entries.
 pub fn number_of(place: usize) -> u32 {
     if place < 65_536 { place as u32 } else { 65_535 }
 }

@@ -84,7 +84,7 @@ impl Work<'_> {
     fn has_room(&self, node: u32, predicate: u16) -> bool {
         let grows = most_atoms(self.setting.defs.cases(predicate));
         let count = self.left(node).spatial().len().saturating_add(grows);
-        count <= (self.setting.defs.most() as usize).saturating_add(1)
+        count <= (self.setting.defs.most().spatial as usize).saturating_add(1)
     }
 
     fn force(&mut self, node: u32, forced: Forced) -> Result<Option<u32>, Stop> {

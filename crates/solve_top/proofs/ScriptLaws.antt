@@ -82,8 +82,8 @@ module _ (question : Question) (p : Problem) (spelled text : List ℕ) (ending :
   found_text ended (Refuted (CounterModel m)) counter asks said =
       inr (record {
         problem = p;
-        certificate = text_of_model m.defs.list m.stack m.heap m.ask;
-        over = over sat_line text spelled (text_of_model m.defs.list m.stack m.heap m.ask) p is said.1;
+        certificate = text_of_model m.version m.defs.list m.stack m.heap m.ask;
+        over = over sat_line text spelled (text_of_model m.version m.defs.list m.stack m.heap m.ask) p is said.1;
         possible = possible p m counter;
         shown = inl (m, counter, model_readings.text_is_read m);
       })

@@ -45,13 +45,13 @@ right_text p f text proof said = record {
 }
 
 model_text : (p : Problem) (m : Model) (text : List ℕ) → IsCounterModel p m
-    → IsCertified fails_line (text_of_model m.defs.list m.stack m.heap m.ask) text → IsModelText p text
+    → IsCertified fails_line (text_of_model m.version m.defs.list m.stack m.heap m.ask) text → IsModelText p text
 model_text p m text counter said = record {
   model = m;
   counter = counter;
-  certificate = said.notes ++ text_of_model m.defs.list m.stack m.heap m.ask;
+  certificate = said.notes ++ text_of_model m.version m.defs.list m.stack m.heap m.ask;
   is = said.is;
-  is_file = notes-passed-over said.notes (text_of_model m.defs.list m.stack m.heap m.ask)
+  is_file = notes-passed-over said.notes (text_of_model m.version m.defs.list m.stack m.heap m.ask)
       said.are_notes models.model_files m (model_readings.text_is_read m);
 }
 

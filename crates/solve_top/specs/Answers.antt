@@ -62,11 +62,12 @@ abbrev pub proof_text : ProofFile → List ℕ
 proof_text f = text_of_file f.version f.defs.list f.program f.nodes
 
 abbrev pub run_text : RunFile → List ℕ
-run_text r = text_of_run r.defs.list r.program r.line r.precondition r.stack r.heap r.picks.items r.outcome
+run_text r =
+    text_of_run r.version r.defs.list r.program r.line r.precondition r.stack r.heap r.picks.items r.outcome
 
 -- the file of what refutes
 abbrev pub text_of_refutation : Refutation → List ℕ
-text_of_refutation (CounterModel m) = text_of_model m.defs.list m.stack m.heap m.ask
+text_of_refutation (CounterModel m) = text_of_model m.version m.defs.list m.stack m.heap m.ask
 text_of_refutation (FaultyRun r) = run_text r
 
 -- how what is found is told

@@ -4,6 +4,7 @@ use Rattle.std.proofs.Common.{arith, leb-true, length-append}
 use Rattle.std.specs.Prelude.{nat_le, Result, Ok, Vec}
 use Rattle.std.specs.declared.alloc.Global.{Global}
 use Rattle.std.proofs.lemmas.List.{length-map}
+use Rattle.cyc_basics.specs.declared.limits.Limits.{Limits}
 use Rattle.heap_formula.specs.declared.terms.Term.{Term}
 use Rattle.heap_formula.specs.declared.terms.Term.TheVariants.{Univ}
 use Rattle.heap_formula.specs.declared.atoms.Pure.{Pure}
@@ -27,14 +28,14 @@ one_true : (p : Bool) → (p && true) && true ≡ p
 one_true true = refl
 one_true false = refl
 
-pub one_short : (most i : ℕ) (a b : SymbolicHeap) → each_heap (is_short most) (one (at_line i a b)) ≡ is_short most b
+pub one_short : (most : Limits) (i : ℕ) (a b : SymbolicHeap) → each_heap (is_short most) (one (at_line i a b)) ≡ is_short most b
 one_short most i a b = one_true (is_short most b)
 
-pub sizes : (most p s : ℕ) (a b : SymbolicHeap) → length b.pure ≡ length a.pure + p
+pub sizes : (most : Limits) (p s : ℕ) (a b : SymbolicHeap) → length b.pure ≡ length a.pure + p
     → length b.spatial ≡ length a.spatial + s → is_short most b ≡ has_room_for most p s a
-sizes most p s a b e f = λ i. nat_le (e i) 64 && nat_le (f i) most
+sizes most p s a b e f = λ i. nat_le (e i) most.pure && nat_le (f i) most.spatial
 
-pub set_short : (most i x n : ℕ) (a : SymbolicHeap) (y : Pure)
+pub set_short : (most : Limits) (i x n : ℕ) (a : SymbolicHeap) (y : Pure)
     → each_heap (is_short most) (one (at_line i a (with_atom (renamed x n a) y))) ≡ has_room_for most 1 0 a
 set_short most i x n a y =
     let l = length-append (renamed x n a).pure (y ∷ []) in
@@ -43,7 +44,7 @@ set_short most i x n a y =
     one_short most i a (with_atom (renamed x n a) y)
     ∙ sizes most 1 0 a (with_atom (renamed x n a) y) (omega arith) (omega arith)
 
-pub new_short : (most i x n : ℕ) (a : SymbolicHeap) (us : List Term)
+pub new_short : (most : Limits) (i x n : ℕ) (a : SymbolicHeap) (us : List Term)
     → each_heap (is_short most) (one (at_line i a (with_cell (renamed x n a) x us))) ≡ has_room_for most 0 1 a
 new_short most i x n a us =
     let l = length-append (renamed x n a).spatial (Cell (Univ x) us ∷ []) in
@@ -55,7 +56,7 @@ new_short most i x n a us =
 -- ---- the answer from premises within the sizes
 
 -- the only premise is the table's where no number passes the greatest, and passes it where the table's does
-pub as_numbered : (most i : ℕ) (a real made : SymbolicHeap) (r : Result (Vec Premise Global) RuleError)
+pub as_numbered : (most : Limits) (i : ℕ) (a real made : SymbolicHeap) (r : Result (Vec Premise Global) RuleError)
     (xs : List Premise) → xs ≡ one (at_line i a made) → each_heap (is_short most) (one (at_line i a real)) ≡ true
     → (heap_numbers real ≤ 65535 → made ≡ real) → (heap_numbers made ≤ 65535 → heap_numbers real ≤ 65535)
     → IsAnswer r (needs (each_heap has_numbers xs) NoFreshVariable (Ok xs))

@@ -2,6 +2,7 @@
 use Rattle.std.proofs.Common.{◌≡◌, ℕ, suc, ◌+◌, ◌<◌, ◌≤◌, List, [], ◌∷◌, length, Some, refl, subst, arith}
 use Rattle.std.specs.Prelude.{slice_get, Result, Ok, Err, Vec, IfOk}
 use Rattle.std.specs.declared.alloc.Global.{Global}
+use Rattle.cyc_basics.specs.declared.limits.Limits.{Limits}
 use Rattle.heap_formula.specs.declared.atoms.Pure.TheVariants.{Eq, Neq}
 use Rattle.heap_formula.specs.declared.terms.Term.TheVariants.{Univ}
 use Rattle.heap_formula.specs.declared.commands.Command.{Command}
@@ -92,14 +93,14 @@ few_fields lines p i c at = few_new (length lines) i c (p.commands i c at)
 
 -- ---- what the call says of its premises
 
-pub exec_sound : (most : ℕ) (lines : List Command) (j : Judgement) (r : Result (Vec Premise Global) RuleError)
+pub exec_sound : (most : Limits) (lines : List Command) (j : Judgement) (r : Result (Vec Premise Global) RuleError)
     → IsProgram lines → IsAnswer r (exec_answer most lines j)
     → IfOk r (λ v. (ds : List Definition) → IsLocallySound ds lines j v.items)
 exec_sound most lines j (Ok v) p is = λ ds. subst (λ (x : Answer). IsSound ds lines j x) is
     (exec_is_sound ds lines most j (program_commands lines p))
 exec_sound most lines j (Err e) p is = tt
 
-pub exec_keeps : (most : ℕ) (lines : List Command) (j : Judgement) (r : Result (Vec Premise Global) RuleError)
+pub exec_keeps : (most : Limits) (lines : List Command) (j : Judgement) (r : Result (Vec Premise Global) RuleError)
     → IsProgram lines → IsAnswer r (exec_answer most lines j)
     → IfOk r (λ v. IsUniversalHeap (antecedent j) → Each IsUniversalPremise v.items)
 exec_keeps most lines j (Ok v) p is = λ u. subst (λ (x : Answer). OnPremises IsUniversalPremise x) is
@@ -112,7 +113,7 @@ module _ (n i : ℕ) (a : SymbolicHeap) (m : ℕ) where
   next : i < n → IsLineOf n (i + 1)
   next h = (omega arith, omega arith)
 
-  command_lines : (most : ℕ) (c : Command) → MayStandAt n i c
+  command_lines : (most : Limits) (c : Command) → MayStandAt n i c
       → OnPremises (IsPremiseAtLine n) (command_answer most i a m c)
   command_lines most Stop h = tt
   command_lines most (Goto j) h = limited_on (IsPremiseAtLine n) most (one (at_line j a a)) (h, tt)
@@ -146,7 +147,7 @@ module _ (n i : ℕ) (a : SymbolicHeap) (m : ℕ) where
         pairs = kept_pairs c.place a.spatial;
       })) (next h, tt))
 
-pub answer_lines : (most : ℕ) (lines : List Command) (j : Judgement) → IsProgram lines
+pub answer_lines : (most : Limits) (lines : List Command) (j : Judgement) → IsProgram lines
     → OnPremises (IsPremiseAtLine (length lines)) (exec_answer most lines j)
 answer_lines most lines (Entail a bs) p = tt
 answer_lines most lines (Runs i a) p =
@@ -154,7 +155,7 @@ answer_lines most lines (Runs i a) p =
     (λ c at. command_lines (length lines) i a (fresh_number (program_variables lines) (Runs i a)) most c
     (p.commands i c at))
 
-pub exec_lines : (most : ℕ) (lines : List Command) (j : Judgement) (r : Result (Vec Premise Global) RuleError)
+pub exec_lines : (most : Limits) (lines : List Command) (j : Judgement) (r : Result (Vec Premise Global) RuleError)
     → IsProgram lines → IsAnswer r (exec_answer most lines j)
     → IfOk r (λ v. Each (IsPremiseAtLine (length lines)) v.items)
 exec_lines most lines j (Ok v) p is = subst (λ (x : Answer). OnPremises (IsPremiseAtLine (length lines)) x) is

@@ -1,6 +1,8 @@
 -- Symbolic states as the program makes them, and their sizes.
 use Rattle.std.specs.Prelude.{ℕ, zero, suc, ◌+◌, ◌≤◌, min, List, [], ◌∷◌, length, Bool, ◌&&◌, nat_le}
-use Rattle.cyc_basics.specs.declared.limits.TheConstants.{MOST_LINES, MOST_PURE, MOST_SPATIAL}
+use Rattle.cyc_basics.specs.Limits.{AreLimits}
+use Rattle.cyc_basics.specs.declared.limits.Limits.{Limits}
+use Rattle.cyc_basics.specs.declared.limits.TheConstants.{MOST_LINES}
 use Rattle.heap_formula.specs.declared.terms.Term.{Term}
 use Rattle.heap_formula.specs.declared.terms.Term.TheVariants.{Univ}
 use Rattle.heap_formula.specs.declared.commands.Command.{Command}
@@ -19,12 +21,12 @@ variables_up_to n zero = []
 variables_up_to n (suc k) = Univ (min n 65535) ∷ variables_up_to (suc n) k
 
 -- within the limits with this many more pure atoms, and this many more spatial ones
-abbrev pub has_room_for : ℕ → ℕ → ℕ → SymbolicHeap → Bool
-has_room_for most pure spatial a = nat_le (length a.pure + pure) MOST_PURE && nat_le (length a.spatial + spatial) most
+abbrev pub has_room_for : Limits → ℕ → ℕ → SymbolicHeap → Bool
+has_room_for most pure spatial a = nat_le (length a.pure + pure) most.pure && nat_le (length a.spatial + spatial) most.spatial
 
 -- a line of a program, a number for a fresh variable, and a limit of some version
 abbrev pub IsSetting : LineSetting → Type 0
-IsSetting at = (at.line ≤ MOST_LINES) × (at.fresh ≤ 65536) × (at.most ≤ MOST_SPATIAL)
+IsSetting at = (at.line ≤ MOST_LINES) × (at.fresh ≤ 65536) × AreLimits at.most
 
 -- the number of fields of a new cell, 0 where there is none
 abbrev pub new_fields : Command → ℕ

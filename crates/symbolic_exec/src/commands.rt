@@ -12,30 +12,30 @@ ghost use Rattle.symbolic_exec.specs.States.{has_room_for, IsSetting, new_fields
 
 use crate::cells::{FoundCell, cell_at, field_at, with_field};
 use crate::states::{allocated, assigned, at_line, only_at_line, with_atom};
-use cyc_basics::limits::{MOST_ARGUMENTS, MOST_PURE};
+use cyc_basics::limits::{Limits, MOST_ARGUMENTS, MOST_PURE};
 use cyc_basics::memory::OutOfMemory;
 use heap_formula::{Command, Heap, Judgement, Premise, Pure, RuleError, RuleFault, Spatial, Term};
 use rule_table::{is_short, numbered, one_premise, pairs_of_kept, two_premises};
 use std::alloc::Global;
 
 /// What premises depend on besides the command and the state: the command's line, the number of a fresh variable, and
-/// the greatest number of spatial atoms of a heap.
+/// the limits of the format's version.
 #[derive(Clone, Copy)]
 pub struct LineSetting {
     pub line: u32,
     pub fresh: u32,
-    pub most: u8,
+    pub most: Limits,
 }
 
-fn has_room(most: u8, a: &Heap, pure: usize, spatial: usize) -> bool
+fn has_room(most: Limits, a: &Heap, pure: usize, spatial: usize) -> bool
     requires few_pure { pure ≤ 1 }
     requires few_spatial { spatial ≤ 1 }
     ensures { result ≡ has_room_for most pure spatial a.now }
 {
-    if a.pure().len() + pure > MOST_PURE {
+    if a.pure().len() + pure > most.pure as usize {
         return false;
     }
-    a.spatial().len() + spatial <= most as usize
+    a.spatial().len() + spatial <= most.spatial as usize
 }
 
 // The old value of x has the fresh number, also in the term that x gets.

@@ -1,5 +1,6 @@
 // The premises at the command of a judgement's line.
 ghost use Rattle.std.specs.Prelude.{◌≡◌, ◌≤◌, IfOk, List, length};
+ghost use Rattle.cyc_basics.specs.Limits.{AreLimits};
 ghost use Rattle.heap_formula.specs.Closedness.{IsUniversalHeap};
 ghost use Rattle.heap_formula.specs.Definitions.{Definition};
 ghost use Rattle.heap_formula.specs.Judgements.{IsLocallySound, antecedent};
@@ -11,7 +12,7 @@ ghost use Rattle.rule_table.specs.Soundness.{IsUniversalPremise};
 ghost use Rattle.symbolic_exec.specs.Lines.{IsPremiseAtLine};
 
 use crate::commands::{LineSetting, command_premises};
-use cyc_basics::limits::MOST_SPATIAL;
+use cyc_basics::limits::Limits;
 use goto_lang::Program;
 use heap_formula::{Command, Judgement, Premise, RuleError, RuleFault};
 use rule_table::fresh;
@@ -32,9 +33,9 @@ fn exec(
     alloc: Global,
     program: &Program,
     judgement: &Judgement,
-    most: u8,
+    most: Limits,
 ) -> Result<Vec<Premise>, RuleError>
-    requires { most ≤ MOST_SPATIAL }
+    requires { AreLimits most }
     ensures { IsAnswer result (exec_answer most program.now judgement.now) }
 {
     let Judgement::Term(line, a) = judgement else {
@@ -54,15 +55,15 @@ fn exec(
 
 /// What is left of a judgement on the program's runs after the command at its line: a premise for each line to which
 /// the command may lead, none at `stop`. A command that reads, writes or frees takes the first cell whose address is
-/// its term or stands with it in one equation. `most` is the greatest number of spatial atoms of a heap, 16 or 32 by
+/// its term or stands with it in one equation. `most` are the limits of
 /// the format's version. Where the line is none of the program's, the answer is `WrongJudgement`, as for an entailment.
 pub fn premises_exec(
     alloc: Global,
     program: &Program,
     judgement: &Judgement,
-    most: u8,
+    most: Limits,
 ) -> Result<Vec<Premise>, RuleError>
-    requires { most ≤ MOST_SPATIAL }
+    requires { AreLimits most }
     ensures answer { IsAnswer result (exec_answer most program.now judgement.now) }
     ensures sound { IfOk result (λ v. (ds : List Definition) → IsLocallySound ds program.now judgement.now v.items) }
     ensures keeps { IfOk result (λ v. IsUniversalHeap (antecedent judgement.now) → Each IsUniversalPremise v.items) }

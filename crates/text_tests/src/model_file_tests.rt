@@ -40,10 +40,19 @@ ask $0 = nil, ?1 != $65534 : $1 -> (?1) * ask(nil, $2) * stack();
 end;
 ";
 
+// A local more than a file of version 1 may have.
+const WIDE: &[u8] = b"cyclist model 3;
+pred wide(1) { $0 = ?16 : emp };
+stack;
+heap;
+ask true : emp;
+end;
+";
+
 /// A text in the written form is written as it stands; no word of a model file is reserved.
 #[test]
 fn writes_what_it_reads(rt: HostRuntime) -> Result<(), Fail> {
-    for text in [EMPTY, RING, NAMES] {
+    for text in [EMPTY, RING, NAMES, WIDE] {
         let written = again(rt.alloc(), text)?;
         assert_eq!(rt; written.as_slice(), text);
     }

@@ -71,11 +71,24 @@ grows step 1 step 3 with(0 0, 1 2, 999999999 0);
 end;
 ";
 
+// A local more than a file of version 1 may have, and a free branch.
+const WIDE: &[u8] = b"cyclist run 3;
+pred wide(1) { $0 = ?16 : emp };
+line 1 : if * goto 1;
+line 2 : stop;
+from 1 given true : emp;
+stack;
+heap;
+picks jump;
+repeats step 0 step 1;
+end;
+";
+
 /// A text in the written form is written as it stands; no word of a run file is reserved; picks may have any addresses,
 /// one of them twice.
 #[test]
 fn writes_what_it_reads(rt: HostRuntime) -> Result<(), Fail> {
-    for text in [SHORT, PICKED, NAMES, GROWN] {
+    for text in [SHORT, PICKED, NAMES, GROWN, WIDE] {
         let written = again(rt.alloc(), text)?;
         assert_eq!(rt; written.as_slice(), text);
     }

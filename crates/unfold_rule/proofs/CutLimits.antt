@@ -4,6 +4,7 @@ use Rattle.std.proofs.Common.{refl, ◌∙◌, arith, leb-true, le-leb, length-a
 use Rattle.std.specs.Prelude.{nat_le, Result, Ok, Vec}
 use Rattle.std.specs.declared.alloc.Global.{Global}
 use Rattle.std.proofs.lemmas.List.{length-map}
+use Rattle.cyc_basics.specs.declared.limits.Limits.{Limits}
 use Rattle.heap_formula.specs.declared.terms.Term.{Term}
 use Rattle.heap_formula.specs.declared.judgements.Judgement.{Judgement}
 use Rattle.heap_formula.specs.declared.judgements.Premise.{Premise}
@@ -39,54 +40,54 @@ chosen_count p (x ∷ xs) = step (p 0) x (chosen (λ k. p (suc k)) xs) (chosen (
     step true x ys zs xs h = omega arith
     step false x ys zs xs h = omega arith
 
-module _ (most : ℕ) (j : Judgement) (p : ℕ → Bool) (formula : SymbolicHeap) where
+module _ (most : Limits) (j : Judgement) (p : ℕ → Bool) (formula : SymbolicHeap) where
   right_short : (f : Term → Term) → list_all (is_short most) (heaps_of (cut_right_by j p f formula).judgement)
-      ≡ nat_le (length (antecedent j).pure + length formula.pure) 64 &&
-      (nat_le (length (chosen (others_of p) (antecedent j).spatial) + length formula.spatial) most && list_all
+      ≡ nat_le (length (antecedent j).pure + length formula.pure) most.pure &&
+      (nat_le (length (chosen (others_of p) (antecedent j).spatial) + length formula.spatial) most.spatial && list_all
       (is_short most) (disjuncts j))
   right_short f =
       let a = antecedent j in
       let kept = chosen (others_of p) a.spatial in
-      let pure : nat_le (length (a.pure ++ map (in_pure f) formula.pure)) 64
-      ≡ nat_le (length a.pure + length formula.pure) 64 =
+      let pure : nat_le (length (a.pure ++ map (in_pure f) formula.pure)) most.pure
+      ≡ nat_le (length a.pure + length formula.pure) most.pure =
       (let l = length-append a.pure (map (in_pure f) formula.pure) in let m = length-map formula.pure (in_pure f) in
       le_same _ _ _ _ (λ h. omega arith) (λ h. omega arith)) in
-      let spatial : nat_le (length (kept ++ map (in_spatial f) formula.spatial)) most
-      ≡ nat_le (length kept + length formula.spatial) most =
+      let spatial : nat_le (length (kept ++ map (in_spatial f) formula.spatial)) most.spatial
+      ≡ nat_le (length kept + length formula.spatial) most.spatial =
       (let l = length-append kept (map (in_spatial f) formula.spatial) in
       let m = length-map formula.spatial (in_spatial f) in le_same _ _ _ _ (λ h. omega arith) (λ h. omega arith)) in
       heaps_short most j (joined a.pure kept (in_heap f formula))
-      ∙ and_assoc (nat_le (length (a.pure ++ map (in_pure f) formula.pure)) 64)
-      (nat_le (length (kept ++ map (in_spatial f) formula.spatial)) most) (list_all (is_short most) (disjuncts j))
+      ∙ and_assoc (nat_le (length (a.pure ++ map (in_pure f) formula.pure)) most.pure)
+      (nat_le (length (kept ++ map (in_spatial f) formula.spatial)) most.spatial) (list_all (is_short most) (disjuncts j))
       ∙ (λ i. pure i && (spatial i && list_all (is_short most) (disjuncts j)))
 
-  left_short : length (antecedent j).pure + length formula.pure ≤ 64
-      → length (chosen (others_of p) (antecedent j).spatial) + length formula.spatial ≤ most
-      → length (antecedent j).spatial ≤ length (chosen (others_of p) (antecedent j).spatial) + most
+  left_short : length (antecedent j).pure + length formula.pure ≤ most.pure
+      → length (chosen (others_of p) (antecedent j).spatial) + length formula.spatial ≤ most.spatial
+      → length (antecedent j).spatial ≤ length (chosen (others_of p) (antecedent j).spatial) + most.spatial
       → list_all (is_short most) (heaps_of (cut_left (antecedent j) p formula).judgement) ≡ true
   left_short pure spatial inside =
       let n = chosen_count p (antecedent j).spatial in
-      let a : length (antecedent j).pure ≤ 64 = omega arith in
-      let b : length (chosen p (antecedent j).spatial) ≤ most = omega arith in
-      let c : length formula.pure ≤ 64 = omega arith in
-      let d : length formula.spatial ≤ most = omega arith in
+      let a : length (antecedent j).pure ≤ most.pure = omega arith in
+      let b : length (chosen p (antecedent j).spatial) ≤ most.spatial = omega arith in
+      let c : length formula.pure ≤ most.pure = omega arith in
+      let d : length formula.spatial ≤ most.spatial = omega arith in
       and_both (is_short most (record { pure = (antecedent j).pure; spatial = chosen p (antecedent j).spatial }))
-      (is_short most formula && true) (and_both (nat_le (length (antecedent j).pure) 64)
-      (nat_le (length (chosen p (antecedent j).spatial)) most) (le-leb _ _ a) (le-leb _ _ b))
-      (and_both (is_short most formula) true (and_both (nat_le (length formula.pure) 64)
-      (nat_le (length formula.spatial) most) (le-leb _ _ c) (le-leb _ _ d)) refl)
+      (is_short most formula && true) (and_both (nat_le (length (antecedent j).pure) most.pure)
+      (nat_le (length (chosen p (antecedent j).spatial)) most.spatial) (le-leb _ _ a) (le-leb _ _ b))
+      (and_both (is_short most formula) true (and_both (nat_le (length formula.pure) most.pure)
+      (nat_le (length formula.spatial) most.spatial) (le-leb _ _ c) (le-leb _ _ d)) refl)
 
   left_inside : list_all (is_short most) (heaps_of (cut_left (antecedent j) p formula).judgement) ≡ true
-      → length (antecedent j).spatial ≤ length (chosen (others_of p) (antecedent j).spatial) + most
+      → length (antecedent j).spatial ≤ length (chosen (others_of p) (antecedent j).spatial) + most.spatial
   left_inside e =
       let n = chosen_count p (antecedent j).spatial in
       let x = and_parts (is_short most (record {
         pure = (antecedent j).pure;
         spatial = chosen p (antecedent j).spatial;
       })) (is_short most formula && true) e in
-      let y = and_parts (nat_le (length (antecedent j).pure) 64)
-      (nat_le (length (chosen p (antecedent j).spatial)) most) x.0 in
-      let z = leb-true (length (chosen p (antecedent j).spatial)) most y.1 in omega arith
+      let y = and_parts (nat_le (length (antecedent j).pure) most.pure)
+      (nat_le (length (chosen p (antecedent j).spatial)) most.spatial) x.0 in
+      let z = leb-true (length (chosen p (antecedent j).spatial)) most.spatial y.1 in omega arith
 
   pub cut_short : (f : Term → Term) → each_heap (is_short most)
       (two (cut_left (antecedent j) p formula) (cut_right_by j p f formula))
@@ -94,9 +95,9 @@ module _ (most : ℕ) (j : Judgement) (p : ℕ → Bool) (formula : SymbolicHeap
   cut_short f =
       let kept = length (chosen (others_of p) (antecedent j).spatial) in
       let left = list_all (is_short most) (heaps_of (cut_left (antecedent j) p formula).judgement) in
-      let room = nat_le (length (antecedent j).spatial) (kept + most) in
-      let pure = nat_le (length (antecedent j).pure + length formula.pure) 64 in
-      let rest = nat_le (kept + length formula.spatial) most && list_all (is_short most) (disjuncts j) in
+      let room = nat_le (length (antecedent j).spatial) (kept + most.spatial) in
+      let pure = nat_le (length (antecedent j).pure + length formula.pure) most.pure in
+      let rest = nat_le (kept + length formula.spatial) most.spatial && list_all (is_short most) (disjuncts j) in
       (λ i. left && (right_short f i && true)) ∙ bool_same (left && ((pure && rest) && true)) (room && (pure && rest))
       (λ e.
       let x = and_parts left ((pure && rest) && true) e in
@@ -104,7 +105,7 @@ module _ (most : ℕ) (j : Judgement) (p : ℕ → Bool) (formula : SymbolicHeap
       and_both room (pure && rest) (le-leb _ _ (left_inside x.0)) y.0) (λ e.
       let x = and_parts room (pure && rest) e in
       let y = and_parts pure rest x.1 in
-      let z = and_parts (nat_le (kept + length formula.spatial) most) (list_all (is_short most) (disjuncts j)) y.1 in
+      let z = and_parts (nat_le (kept + length formula.spatial) most.spatial) (list_all (is_short most) (disjuncts j)) y.1 in
       and_both left ((pure && rest) && true) (left_short (leb-true _ _ y.0) (leb-true _ _ z.0) (leb-true _ _ x.0))
       (and_both (pure && rest) true x.1 refl))
 
@@ -134,7 +135,7 @@ module _ (most : ℕ) (j : Judgement) (p : ℕ → Bool) (formula : SymbolicHeap
           pairs = pairs_from (chosen_place (others_of p) (antecedent j).spatial) 0 kept;
         })
 
-pub cut_made : (most : ℕ) (j : Judgement) (p : ℕ → Bool) (formula : SymbolicHeap) (n : ℕ)
+pub cut_made : (most : Limits) (j : Judgement) (p : ℕ → Bool) (formula : SymbolicHeap) (n : ℕ)
     (r : Result (Vec Premise Global) RuleError) (xs : List Premise)
     → cut_fits most j (length (chosen (others_of p) (antecedent j).spatial)) formula ≡ true
     → xs ≡ two (cut_left (antecedent j) p formula) (cut_right_by j p (changed (Opened n)) formula)

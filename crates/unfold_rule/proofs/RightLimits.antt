@@ -4,6 +4,7 @@ use Rattle.std.proofs.Common.{refl, sym, ap, ◌∙◌, arith, leb-true, length-
 use Rattle.std.specs.Prelude.{nat_le, Result, Ok, Vec}
 use Rattle.std.specs.declared.alloc.Global.{Global}
 use Rattle.std.proofs.lemmas.List.{length-map}
+use Rattle.cyc_basics.specs.declared.limits.Limits.{Limits}
 use Rattle.heap_formula.specs.declared.terms.Term.{Term}
 use Rattle.heap_formula.specs.declared.judgements.Premise.{Premise}
 use Rattle.heap_formula.specs.declared.proof_rules.RuleError.{RuleError}
@@ -26,15 +27,15 @@ use Rattle.std.specs.List.{list_all}
 use Rattle.cyc_basics.proofs.Tests.{le_same}
 
 module _ (a b : SymbolicHeap) (k : ℕ) (case : SymbolicHeap) where
-  pub right_short : (most : ℕ) (f : Term → Term) → k < length b.spatial
+  pub right_short : (most : Limits) (f : Term → Term) → k < length b.spatial
       → each_heap (is_short most) (one (right_by a b k f case)) ≡ right_fits most a b case
   right_short most f k_in =
-      let pure : nat_le (length (b.pure ++ map (in_pure f) case.pure)) 64
-      ≡ nat_le (length b.pure + length case.pure) 64 =
+      let pure : nat_le (length (b.pure ++ map (in_pure f) case.pure)) most.pure
+      ≡ nat_le (length b.pure + length case.pure) most.pure =
       (let l = length-append b.pure (map (in_pure f) case.pure) in let m = length-map case.pure (in_pure f) in
       le_same _ _ _ _ (λ h. omega arith) (λ h. omega arith)) in
-      let spatial : nat_le (length (without k b.spatial ++ map (in_spatial f) case.spatial)) most
-      ≡ nat_le (length b.spatial + length case.spatial) (most + 1) =
+      let spatial : nat_le (length (without k b.spatial ++ map (in_spatial f) case.spatial)) most.spatial
+      ≡ nat_le (length b.spatial + length case.spatial) (most.spatial + 1) =
       (let l = length-append (without k b.spatial) (map (in_spatial f) case.spatial) in
       let m = length-map case.spatial (in_spatial f) in let w = length-without b.spatial k k_in in
       le_same _ _ _ _ (λ h. omega arith) (λ h. omega arith)) in
@@ -63,7 +64,7 @@ module _ (a b : SymbolicHeap) (k : ℕ) (case : SymbolicHeap) where
         let body = joined_same b.pure (without k b.spatial) f g same over case (leb-true _ _ n.0) in
         λ i. one (with_right a (unfolded b k (body i) ∷ []))
 
-pub right_made : (most : ℕ) (a b : SymbolicHeap) (k : ℕ) (args : List Term) (n : ℕ) (case : SymbolicHeap)
+pub right_made : (most : Limits) (a b : SymbolicHeap) (k : ℕ) (args : List Term) (n : ℕ) (case : SymbolicHeap)
     (r : Result (Vec Premise Global) RuleError) (xs : List Premise) → k < length b.spatial
     → right_fits most a b case ≡ true → xs ≡ one (right_by a b k (changed (Right args n)) case)
     → IsAnswer r (needs (each_heap has_numbers xs) NoFreshVariable (Ok xs))

@@ -4,6 +4,7 @@ use Rattle.std.proofs.Common.{arith, leb-true, length-append}
 use Rattle.std.specs.Prelude.{nat_le, Result, Ok, Vec}
 use Rattle.std.specs.declared.alloc.Global.{Global}
 use Rattle.std.proofs.lemmas.List.{length-map}
+use Rattle.cyc_basics.specs.declared.limits.Limits.{Limits}
 use Rattle.heap_formula.specs.declared.terms.Term.{Term}
 use Rattle.heap_formula.specs.declared.atoms.Pure.{Pure}
 use Rattle.heap_formula.specs.declared.atoms.Spatial.{Spatial}
@@ -32,26 +33,26 @@ use Rattle.std.specs.List.{list_all}
 use Rattle.cyc_basics.proofs.Tests.{le_same}
 
 module _ (j : Judgement) (k : ℕ) (k_in : k < length (antecedent j).spatial) where
-  case_short : (most : ℕ) (f : Term → Term) (case : SymbolicHeap)
+  case_short : (most : Limits) (f : Term → Term) (case : SymbolicHeap)
       → list_all (is_short most) (heaps_of (unfolded_by j k f case).judgement) ≡ case_fits most j case
   case_short most f case =
       let a = antecedent j in
-      let pure : nat_le (length (a.pure ++ map (in_pure f) case.pure)) 64
-      ≡ nat_le (length a.pure + length case.pure) 64 =
+      let pure : nat_le (length (a.pure ++ map (in_pure f) case.pure)) most.pure
+      ≡ nat_le (length a.pure + length case.pure) most.pure =
       (let l = length-append a.pure (map (in_pure f) case.pure) in let m = length-map case.pure (in_pure f) in
       le_same _ _ _ _ (λ h. omega arith) (λ h. omega arith)) in
-      let spatial : nat_le (length (without k a.spatial ++ map (in_spatial f) case.spatial)) most
-      ≡ nat_le (length a.spatial + length case.spatial) (most + 1) =
+      let spatial : nat_le (length (without k a.spatial ++ map (in_spatial f) case.spatial)) most.spatial
+      ≡ nat_le (length a.spatial + length case.spatial) (most.spatial + 1) =
       (let l = length-append (without k a.spatial) (map (in_spatial f) case.spatial) in
       let m = length-map case.spatial (in_spatial f) in let w = length-without a.spatial k k_in in
       le_same _ _ _ _ (λ h. omega arith) (λ h. omega arith)) in
       heaps_short most j (unfolded a k (in_heap f case))
-      ∙ and_assoc (nat_le (length (a.pure ++ map (in_pure f) case.pure)) 64)
-      (nat_le (length (without k a.spatial ++ map (in_spatial f) case.spatial)) most)
+      ∙ and_assoc (nat_le (length (a.pure ++ map (in_pure f) case.pure)) most.pure)
+      (nat_le (length (without k a.spatial ++ map (in_spatial f) case.spatial)) most.spatial)
       (list_all (is_short most) (disjuncts j)) ∙ (λ i. pure i &&
       (spatial i && list_all (is_short most) (disjuncts j)))
 
-  pub cases_short : (most : ℕ) (f : Term → Term) (cases : List SymbolicHeap)
+  pub cases_short : (most : Limits) (f : Term → Term) (cases : List SymbolicHeap)
       → each_heap (is_short most) (map (unfolded_by j k f) cases) ≡ list_all (case_fits most j) cases
   cases_short most f [] = refl
   cases_short most f (c ∷ cs) = λ i. case_short most f c i && cases_short most f cs i
@@ -81,7 +82,7 @@ module _ (j : Judgement) (k : ℕ) (k_in : k < length (antecedent j).spatial) wh
               ++ child_pairs k (length (without k (antecedent j).spatial)) (body i).spatial;
         } ∷ cases_same cs b.1 i
 
-pub unfold_made : (most : ℕ) (j : Judgement) (k : ℕ) (args : List Term) (n : ℕ) (cases : List SymbolicHeap)
+pub unfold_made : (most : Limits) (j : Judgement) (k : ℕ) (args : List Term) (n : ℕ) (cases : List SymbolicHeap)
     (r : Result (Vec Premise Global) RuleError) (xs : List Premise) → k < length (antecedent j).spatial
     → list_all (case_fits most j) cases ≡ true → xs ≡ map (unfolded_by j k (changed (Left args n))) cases
     → IsAnswer r (needs (each_heap has_numbers xs) NoFreshVariable (Ok xs))

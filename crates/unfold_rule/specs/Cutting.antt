@@ -1,7 +1,7 @@
 -- The premises of Cut, as the program makes them, and their sizes.
 use Rattle.std.specs.Prelude.{ℕ, ◌+◌, length, Bool, ◌&&◌, nat_le, List, max}
 use Rattle.std.specs.List.{list_all}
-use Rattle.cyc_basics.specs.declared.limits.TheConstants.{MOST_PURE}
+use Rattle.cyc_basics.specs.declared.limits.Limits.{Limits}
 use Rattle.heap_formula.specs.declared.terms.Term.{Term}
 use Rattle.heap_formula.specs.declared.judgements.Judgement.{Judgement}
 use Rattle.heap_formula.specs.declared.judgements.Premise.{Premise}
@@ -32,7 +32,7 @@ cut_by j places f formula =
     (cut_right_by j (has_number places) f formula)
 
 -- the answer of Cut at places that ascend
-abbrev pub placed_cut_answer : ℕ → ℕ → Judgement → List ℕ → SymbolicHeap → Answer
+abbrev pub placed_cut_answer : Limits → ℕ → Judgement → List ℕ → SymbolicHeap → Answer
 placed_cut_answer most p j places formula =
     limited most
     (two (cut_left (antecedent j) (has_number places) formula)
@@ -40,8 +40,8 @@ placed_cut_answer most p j places formula =
 
 -- both premises are within the limits, where n spatial atoms stay: the first has the others, the second these and the
 -- formula's
-abbrev pub cut_fits : ℕ → Judgement → ℕ → SymbolicHeap → Bool
+abbrev pub cut_fits : Limits → Judgement → ℕ → SymbolicHeap → Bool
 cut_fits most j n formula =
-    nat_le (length (antecedent j).spatial) (n + most) &&
-    (nat_le (length (antecedent j).pure + length formula.pure) MOST_PURE &&
-    (nat_le (n + length formula.spatial) most && list_all (is_short most) (disjuncts j)))
+    nat_le (length (antecedent j).spatial) (n + most.spatial) &&
+    (nat_le (length (antecedent j).pure + length formula.pure) most.pure &&
+    (nat_le (n + length formula.spatial) most.spatial && list_all (is_short most) (disjuncts j)))

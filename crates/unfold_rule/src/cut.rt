@@ -1,5 +1,6 @@
 // A formula in the place of atoms that entail it.
 ghost use Rattle.std.specs.Prelude.{◌≡◌, ◌≤◌, ◌+◌, true, max, IfOk, List, length};
+ghost use Rattle.cyc_basics.specs.Limits.{AreLimits};
 ghost use Rattle.heap_formula.specs.declared.commands.Command.{Command};
 ghost use Rattle.heap_formula.specs.Definitions.{Definition};
 ghost use Rattle.heap_formula.specs.Judgements.{IsLocallySound, antecedent as antecedent_of};
@@ -13,7 +14,7 @@ ghost use Rattle.rule_table.specs.Tests.{has_number};
 ghost use Rattle.unfold_rule.specs.Cutting.{cut_right_by, cut_fits, cut_by, placed_cut_answer};
 
 use crate::joining::joined_heap;
-use cyc_basics::limits::{MOST_PURE, MOST_SPATIAL};
+use cyc_basics::limits::{Limits, MOST_PURE, MOST_SPATIAL};
 use cyc_basics::memory::OutOfMemory;
 use heap_formula::{
     Disjuncts, Heap, Judgement, Positions, Premise, RuleError, RuleFault, Spatial, bound_of_heap,
@@ -87,8 +88,8 @@ fn cut_premises(
     two_premises(alloc, left, right)
 }
 
-fn fits(most: u8, judgement: &Judgement, stay: usize, formula: &Heap) -> bool
-    requires most_fits { most ≤ MOST_SPATIAL }
+fn fits(most: Limits, judgement: &Judgement, stay: usize, formula: &Heap) -> bool
+    requires most_fits { AreLimits most }
     requires few { stay ≤ MOST_SPATIAL }
     ensures value { result ≡ cut_fits most judgement.now stay formula.now }
     ensures pure_fits { result ≡ true
@@ -96,13 +97,13 @@ fn fits(most: u8, judgement: &Judgement, stay: usize, formula: &Heap) -> bool
     ensures spatial_fits { result ≡ true → stay + length formula.now.spatial ≤ MOST_SPATIAL }
 {
     let a = antecedent(judgement);
-    if a.spatial().len() > stay + most as usize {
+    if a.spatial().len() > stay + most.spatial as usize {
         return false;
     }
-    if a.pure().len() + formula.pure().len() > MOST_PURE {
+    if a.pure().len() + formula.pure().len() > most.pure as usize {
         return false;
     }
-    if stay + formula.spatial().len() > most as usize {
+    if stay + formula.spatial().len() > most.spatial as usize {
         return false;
     }
     are_disjuncts_short(most, judgement)
@@ -110,14 +111,14 @@ fn fits(most: u8, judgement: &Judgement, stay: usize, formula: &Heap) -> bool
 
 fn cut_at(
     alloc: Global,
-    most: u8,
+    most: Limits,
     judgement: &Judgement,
     p: u16,
     places: &[u32],
     rest: Vec<Spatial>,
     formula: &Heap,
 ) -> Result<Vec<Premise>, RuleError>
-    requires most_fits { most ≤ MOST_SPATIAL }
+    requires most_fits { AreLimits most }
     requires stays { rest.items ≡ chosen (others_of (has_number places.now)) (antecedent_of judgement.now).spatial }
     requires few { length rest.items ≤ MOST_SPATIAL }
     ensures { IsAnswer result (placed_cut_answer most p judgement.now places.now formula.now) }
@@ -136,9 +137,9 @@ fn cut(
     p: u16,
     places: &[u32],
     formula: &Heap,
-    most: u8,
+    most: Limits,
 ) -> Result<Vec<Premise>, RuleError>
-    requires { most ≤ MOST_SPATIAL }
+    requires { AreLimits most }
     ensures { IsAnswer result (cut_answer most p judgement.now places.now formula.now) }
 {
     let a = antecedent(judgement);
@@ -151,17 +152,17 @@ fn cut(
 
 /// Two premises: the antecedent's pure atoms and its spatial atoms at the positions, counted from 0 and strictly
 /// ascending, entail the formula; and the judgement with the formula in their place, fresh universal variables standing
-/// for its existential ones. `p` is the number of program variables, 0 for an entailment, and `most` the greatest
-/// number of spatial atoms of a heap, 16 or 32 by the format's version.
+/// for its existential ones. `p` is the number of program variables, 0 for an entailment, and `most` the
+/// limits of the format's version.
 pub fn premises_cut(
     alloc: Global,
     judgement: &Judgement,
     p: u16,
     positions: &Positions,
     formula: &Heap,
-    most: u8,
+    most: Limits,
 ) -> Result<Vec<Premise>, RuleError>
-    requires { most ≤ MOST_SPATIAL }
+    requires { AreLimits most }
     ensures answer { IsAnswer result (cut_answer most p judgement.now positions.now formula.now) }
     ensures sound { IfOk result (λ v. (ds : List Definition) (lines : List Command)
         → HasVariables lines p judgement.now → IsLocallySound ds lines judgement.now v.items) }

@@ -19,7 +19,7 @@ pub fn kept_atoms(
     more: usize,
 ) -> Result<Vec<Spatial>, OutOfMemory>
     requires k_in { k < length atoms.now }
-    requires few { length atoms.now + more ≤ 64 }
+    requires few { length atoms.now + more ≤ MOST_SPATIAL + MOST_SPATIAL }
     ensures value { IfOk result (λ v. v.items ≡ without k atoms.now) }
     ensures shorter { IfOk result (λ v. length v.items + 1 ≡ length atoms.now) }
 {

@@ -1,5 +1,6 @@
 // The cases in the place of a predicate of the antecedent.
 ghost use Rattle.std.specs.Prelude.{◌≡◌, ◌<◌, ◌≤◌, ◌+◌, ◌++◌, true, map, IfOk, OnOk, List, length};
+ghost use Rattle.cyc_basics.specs.Limits.{AreLimits};
 ghost use Rattle.heap_formula.specs.declared.commands.Command.{Command};
 ghost use Rattle.heap_formula.specs.Judgements.{IsLocallySound, antecedent as antecedent_of};
 ghost use Rattle.heap_formula.specs.Positions.{before, pairs_from, child_pairs};
@@ -11,7 +12,7 @@ ghost use Rattle.rule_table.specs.Table.{unfold_answer};
 ghost use Rattle.unfold_rule.specs.Unfolding.{unfolded_by, case_fits, unfold_cases_answer};
 
 use crate::joining::{joined_heap, kept_atoms};
-use cyc_basics::limits::{MOST_PURE, MOST_SPATIAL};
+use cyc_basics::limits::{Limits, MOST_PURE, MOST_SPATIAL};
 use cyc_basics::memory::OutOfMemory;
 use heap_formula::{Args, Heap, Judgement, Pair, Pairs, Premise, RuleError, RuleFault, Spatial};
 use pred_defs::Defs;
@@ -27,8 +28,8 @@ fn push_children(
     first: usize,
     atoms: &[Spatial],
 ) -> Result<(), OutOfMemory>
-    requires k_fits { k < 32 }
-    requires fits { first + length atoms.now ≤ 64 }
+    requires k_fits { k < MOST_SPATIAL }
+    requires fits { first + length atoms.now ≤ MOST_SPATIAL + MOST_SPATIAL }
     ensures { OnOk result (pairs.new ≡ pairs.old ++ child_pairs k first atoms.now) }
 {
     for (i, atom) in atoms.iter().enumerate() {
@@ -49,7 +50,7 @@ fn unfolded_pairs(
     k: usize,
     body: &[Spatial],
 ) -> Result<Pairs, OutOfMemory>
-    requires k_fits { k < 32 }
+    requires k_fits { k < MOST_SPATIAL }
     requires kept_fits { length kept.now ≤ MOST_SPATIAL }
     requires body_fits { length body.now ≤ MOST_SPATIAL }
     ensures { IfOk result (λ p. p ≡ pairs_from (before k) 0 kept.now ++ child_pairs k (length kept.now) body.now) }
@@ -83,20 +84,20 @@ fn unfolded_premise(
     })
 }
 
-fn fits(most: u8, judgement: &Judgement, case: &Heap) -> bool
+fn fits(most: Limits, judgement: &Judgement, case: &Heap) -> bool
     ensures { result ≡ case_fits most judgement.now case.now }
 {
     let a = antecedent(judgement);
-    if a.pure().len() + case.pure().len() > MOST_PURE {
+    if a.pure().len() + case.pure().len() > most.pure as usize {
         return false;
     }
-    if a.spatial().len() + case.spatial().len() > most as usize + 1 {
+    if a.spatial().len() + case.spatial().len() > most.spatial as usize + 1 {
         return false;
     }
     are_disjuncts_short(most, judgement)
 }
 
-fn all_fit(most: u8, judgement: &Judgement, cases: &[Heap]) -> bool
+fn all_fit(most: Limits, judgement: &Judgement, cases: &[Heap]) -> bool
     ensures { result ≡ list_all (case_fits most judgement.now) cases.now }
 {
     for case in cases {
@@ -109,13 +110,13 @@ fn all_fit(most: u8, judgement: &Judgement, cases: &[Heap]) -> bool
 
 fn unfolded_premises(
     alloc: Global,
-    most: u8,
+    most: Limits,
     judgement: &Judgement,
     k: usize,
     change: &Change,
     cases: &[Heap],
 ) -> Result<Vec<Premise>, OutOfMemory>
-    requires most_fits { most ≤ MOST_SPATIAL }
+    requires most_fits { AreLimits most }
     requires small { IsSmall change.now }
     requires k_in { k < length (antecedent_of judgement.now).spatial }
     requires fit { list_all (case_fits most judgement.now) cases.now ≡ true }
@@ -125,19 +126,20 @@ fn unfolded_premises(
     for case in cases {
         premises.push(unfolded_premise(alloc, judgement, k, change, case)?)?;
     }
+    let _limits = most;
     Ok(premises)
 }
 
 fn unfold_cases(
     alloc: Global,
-    most: u8,
+    most: Limits,
     judgement: &Judgement,
     p: u16,
     k: usize,
     args: &Args,
     cases: &[Heap],
 ) -> Result<Vec<Premise>, RuleError>
-    requires most_fits { most ≤ MOST_SPATIAL }
+    requires most_fits { AreLimits most }
     requires k_in { k < length (antecedent_of judgement.now).spatial }
     ensures { IsAnswer result (unfold_cases_answer most p judgement.now k args.now cases.now) }
 {

@@ -1,5 +1,6 @@
 // A case in the place of a predicate of the succedent.
 ghost use Rattle.std.specs.Prelude.{◌≡◌, ◌<◌, ◌≤◌, ◌+◌, IfOk, List, length, MatchOption, slice_get, None, Some};
+ghost use Rattle.cyc_basics.specs.Limits.{AreLimits};
 ghost use Rattle.heap_formula.specs.declared.commands.Command.{Command};
 ghost use Rattle.heap_formula.specs.Judgements.{IsLocallySound};
 ghost use Rattle.heap_formula.specs.declared.proof_rules.RuleFault.TheVariants.{NoSuchCase};
@@ -10,7 +11,7 @@ ghost use Rattle.rule_table.specs.Table.{unfold_right_answer};
 ghost use Rattle.unfold_rule.specs.Unfolding.{right_by, right_fits, right_case_answer, right_call_answer};
 
 use crate::joining::{joined_heap, kept_atoms};
-use cyc_basics::limits::{MOST_PURE, MOST_SPATIAL};
+use cyc_basics::limits::{Limits, MOST_PURE, MOST_SPATIAL};
 use cyc_basics::memory::OutOfMemory;
 use heap_formula::{Args, Heap, Judgement, Premise, RuleError, RuleFault, Spatial, exists_in_heap};
 use pred_defs::Defs;
@@ -36,28 +37,28 @@ fn right_premises(
     one_premise(alloc, with_disjunct(alloc, a, heap)?)
 }
 
-fn fits(most: u8, a: &Heap, b: &Heap, case: &Heap) -> bool
+fn fits(most: Limits, a: &Heap, b: &Heap, case: &Heap) -> bool
     ensures { result ≡ right_fits most a.now b.now case.now }
 {
     if !is_short(most, a) {
         return false;
     }
-    if b.pure().len() + case.pure().len() > MOST_PURE {
+    if b.pure().len() + case.pure().len() > most.pure as usize {
         return false;
     }
-    b.spatial().len() + case.spatial().len() <= most as usize + 1
+    b.spatial().len() + case.spatial().len() <= most.spatial as usize + 1
 }
 
 fn unfold_case(
     alloc: Global,
-    most: u8,
+    most: Limits,
     a: &Heap,
     b: &Heap,
     k: usize,
     args: &Args,
     case: &Heap,
 ) -> Result<Vec<Premise>, RuleError>
-    requires most_fits { most ≤ MOST_SPATIAL }
+    requires most_fits { AreLimits most }
     requires k_in { k < length b.now.spatial }
     ensures { IsAnswer result (right_case_answer most a.now b.now k args.now case.now) }
 {

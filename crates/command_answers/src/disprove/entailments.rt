@@ -2,6 +2,7 @@
 ghost use Rattle.std.specs.Prelude.{◌≡◌, ◌≤◌, IfOk, true};
 ghost use Rattle.heap_formula.specs.declared.judgements.Judgement.{Judgement};
 ghost use Rattle.cyc_runs.specs.Endings.{is_answer};
+ghost use Rattle.model_file.specs.Versions.{version_for};
 ghost use Rattle.command_answers.specs.DisproveAnswers.{not_found_text, IsEntailmentAnswer, IsGoalAnswer};
 
 use crate::disprove::model_files::model_text;
@@ -35,8 +36,8 @@ fn answer_to_entailment(
 ) -> Result<Answer, OutOfMemory>
     requires goal { problem.now.goal ≡ Judgement.Entail antecedent.now disjuncts.now }
     requires size { cells ≤ 4 }
-    ensures said { IfOk result (λ a. IsEntailmentAnswer cells problem.now.defs.list antecedent.now disjuncts.now
-        a.status a.text.items) }
+    ensures said { IfOk result (λ a. IsEntailmentAnswer (version_for problem.now.version) cells problem.now.defs.list
+        antecedent.now disjuncts.now a.status a.text.items) }
     ensures ending { IfOk result (λ a. is_answer a.status ≡ true) }
 {
     problem_is_within(problem);
@@ -69,7 +70,8 @@ fn answer_to_entailment(
 // The answer to a problem.
 fn answer_to_problem(alloc: Global, problem: &Problem, cells: u32) -> Result<Answer, OutOfMemory>
     requires { cells ≤ 4 }
-    ensures said { IfOk result (λ a. IsGoalAnswer cells problem.now.defs.list problem.now.goal a.status a.text.items) }
+    ensures said { IfOk result (λ a. IsGoalAnswer (version_for problem.now.version) cells problem.now.defs.list
+        problem.now.goal a.status a.text.items) }
     ensures ending { IfOk result (λ a. is_answer a.status ≡ true) }
 {
     match &problem.goal {

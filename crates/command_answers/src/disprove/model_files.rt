@@ -3,6 +3,7 @@ ghost use Rattle.std.specs.Prelude.{◌≡◌, ◌≤◌, IfOk};
 ghost use Rattle.heap_formula.specs.declared.judgements.Judgement.{Judgement};
 ghost use Rattle.heap_formula.specs.Fresh.{judgement_bound};
 ghost use Rattle.counter_model.specs.FirstCounter.{IsFirstCounter};
+ghost use Rattle.model_file.specs.Versions.{version_for};
 ghost use Rattle.model_file.specs.Written.{text_of_model};
 
 use counter_model::files::plain_model;
@@ -14,7 +15,8 @@ use heap_formula::{Disjuncts, Heap};
 use model_file::write_model;
 use std::alloc::Global;
 
-/// The text of the model file that has the problem's definitions, the stack, the heap and the antecedent.
+/// The text of the model file, of the version for the problem's, that has the problem's definitions, the stack, the
+/// heap and the antecedent.
 pub fn model_text(
     alloc: Global,
     problem: &Problem,
@@ -28,7 +30,8 @@ pub fn model_text(
     requires few { judgement_bound (Judgement.Entail antecedent.now disjuncts.now) ≤ MOST_UNIVERSALS }
     requires size { _cells ≤ 4 }
     requires first { IsFirstCounter problem.now.defs.list antecedent.now disjuncts.now _cells stack heap }
-    ensures { IfOk result (λ v. v.items ≡ text_of_model problem.now.defs.list stack heap antecedent.now) }
+    ensures { IfOk result (λ v. v.items
+        ≡ text_of_model (version_for problem.now.version) problem.now.defs.list stack heap antecedent.now) }
 {
     let model = plain_model(alloc, problem, antecedent, disjuncts, stack, heap)?;
     write_model(alloc, &model)

@@ -4,7 +4,7 @@ ghost use Rattle.heap_formula.specs.Words.{Each};
 ghost use Rattle.model_file.specs.Small.{IsShortNumber};
 ghost use Rattle.counter_model.specs.States.{HasPlainCell, IsPlainState};
 
-use cyc_basics::limits::{MOST_ARGUMENTS, MOST_CELLS, MOST_VALUES};
+use cyc_basics::limits::{Limits, MOST_VALUES};
 use cyc_basics::memory::OutOfMemory;
 use goto_lang::{Cells, Stack};
 use std::alloc::Global;
@@ -27,9 +27,9 @@ fn are_short(numbers: &[u64]) -> bool
     true
 }
 
-/// Whether the cell at an address, if there is one, may stand in a model file.
-fn is_plain(heap: &Cells, address: u64) -> bool
-    ensures { IsTrue result → HasPlainCell heap.now address }
+/// Whether the cell at an address, if there is one, may stand in a model file within these limits.
+fn is_plain(most: Limits, heap: &Cells, address: u64) -> bool
+    ensures { IsTrue result → HasPlainCell most heap.now address }
 {
     match heap.get(address) {
         None => true,
@@ -37,34 +37,39 @@ fn is_plain(heap: &Cells, address: u64) -> bool
             address > 0
                 && is_short(address)
                 && !fields.is_empty()
-                && fields.len() <= MOST_ARGUMENTS
+                && fields.len() <= most.arguments as usize
                 && are_short(fields)
         }
     }
 }
 
-fn are_plain(heap: &Cells, addresses: &[u64]) -> bool
-    ensures { IsTrue result → Each (HasPlainCell heap.now) addresses.now }
+fn are_plain(most: Limits, heap: &Cells, addresses: &[u64]) -> bool
+    ensures { IsTrue result → Each (HasPlainCell most heap.now) addresses.now }
 {
     for address in addresses {
-        if !is_plain(heap, *address) {
+        if !is_plain(most, heap, *address) {
             return false;
         }
     }
     true
 }
 
-/// Whether the stack and the heap may stand in a model file.
-pub fn is_plain_state(alloc: Global, stack: &Stack, heap: &Cells) -> Result<bool, OutOfMemory>
-    ensures { IfOk result (λ yes. IsTrue yes → IsPlainState stack.now heap.now) }
+/// Whether the stack and the heap may stand in a model file within these limits.
+pub fn is_plain_state(
+    alloc: Global,
+    most: Limits,
+    stack: &Stack,
+    heap: &Cells,
+) -> Result<bool, OutOfMemory>
+    ensures { IfOk result (λ yes. IsTrue yes → IsPlainState most stack.now heap.now) }
 {
     let values = stack.as_slice();
     if values.len() > MOST_VALUES || !are_short(values) {
         return Ok(false);
     }
     let addresses = heap.addresses(alloc)?;
-    if addresses.len() > MOST_CELLS {
+    if addresses.len() > most.cells as usize {
         return Ok(false);
     }
-    Ok(are_plain(heap, &addresses))
+    Ok(are_plain(most, heap, &addresses))
 }

@@ -5,7 +5,7 @@ ghost use Rattle.std.specs.Prelude.{◌≡◌, ◌+◌, ◌<◌, ◌≤◌, ◌^
 ghost use Rattle.heap_reader.specs.Flaws.{or_later};
 ghost use Rattle.fo_file.specs.Arguments.{numbers, argument_flaw, until_ninth};
 
-use cyc_basics::limits::MOST_ARGUMENTS;
+use cyc_basics::limits::MOST_FIRST_ORDER_ARGUMENTS;
 use cyc_lex::What;
 use heap_reader::{Flaw, over};
 
@@ -28,7 +28,7 @@ pub fn ninth_behind(ninth: Option<usize>, arguments: usize) -> Option<usize>
     ensures near { (m : ℕ) → IfSome ninth (λ n. n ≤ m) → IfSome result (λ n. n ≤ m + 8) }
 {
     match ninth {
-        _ if arguments > MOST_ARGUMENTS => Some(MOST_ARGUMENTS),
+        _ if arguments > MOST_FIRST_ORDER_ARGUMENTS => Some(MOST_FIRST_ORDER_ARGUMENTS),
         Some(terms) => Some(terms + arguments - 1),
         None => None,
     }

@@ -11,7 +11,7 @@ ghost use Rattle.fo_file.specs.AtomFlaws.{variable_flaw, terms_flaw, sign_flaw, 
 
 use crate::walk::flaw::{Reached, Scope, Stop};
 use crate::walk::ninth::{argument_limit, ninth_behind};
-use cyc_basics::limits::{GREATEST_LOCAL, GREATEST_VARIABLE, MOST_TERMS};
+use cyc_basics::limits::{GREATEST_FIRST_ORDER_LOCAL, GREATEST_VARIABLE, MOST_TERMS};
 use cyc_lex::{IllFault, What};
 use fo_syntax::terms::{SignTree, places_of};
 use heap_reader::{Flaw, Heads, ill, over};
@@ -77,7 +77,7 @@ fn check_sign(
         SignTree::Local(number) => {
             check_limit(limit)?;
             check_terms(terms, at)?;
-            if number > GREATEST_LOCAL {
+            if number > GREATEST_FIRST_ORDER_LOCAL {
                 return Err(over(What::Locals, at + 1));
             }
             Ok(())

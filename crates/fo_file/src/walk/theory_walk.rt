@@ -20,7 +20,7 @@ use crate::walk::atom_walk::walk_atoms;
 use crate::walk::flaw::{Reached, Scope, Stop};
 use crate::walk::known::Names;
 use cyc_basics::limits::{
-    MOST_ARGUMENTS, MOST_CASE_ATOMS, MOST_CASES, MOST_CONSTRUCTORS, MOST_PREDICATES,
+    MOST_FIRST_ORDER_ARGUMENTS, MOST_CASE_ATOMS, MOST_FIRST_ORDER_CASES, MOST_CONSTRUCTORS, MOST_PREDICATES,
 };
 use cyc_lex::{IllFault, What};
 use fo_syntax::problems::{ConstructorTree, DefinitionTree};
@@ -32,7 +32,7 @@ use std::alloc::Global;
 fn check_arguments(at: usize, number: u32) -> Result<(), Flaw>
     ensures { IsName result (arguments_flaw at number) }
 {
-    if number > MOST_ARGUMENTS as u32 {
+    if number > MOST_FIRST_ORDER_ARGUMENTS as u32 {
         return Err(over(What::Arguments, at));
     }
     Ok(())
@@ -107,9 +107,9 @@ fn check_definition_head(
 
 /// What a definition has against the case before which n of its cases stand.
 fn case_limit(n: usize, at: usize) -> Option<Flaw>
-    ensures { result ≡ over_if (nat_le MOST_CASES n) Cases at }
+    ensures { result ≡ over_if (nat_le MOST_FIRST_ORDER_CASES n) Cases at }
 {
-    if n >= MOST_CASES {
+    if n >= MOST_FIRST_ORDER_CASES {
         return Some(over(What::Cases, at));
     }
     None

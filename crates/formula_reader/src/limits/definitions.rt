@@ -7,7 +7,7 @@ ghost use Rattle.formula_reader.specs.Excess.{definitions_excess as excess_of_de
 use crate::limits::excess::{CaseExcess, DefinitionExcess, ProblemExcess};
 use crate::limits::heaps::heap_excess;
 use crate::limits::names::{has_name, is_free_name};
-use cyc_basics::limits::{MOST_ARGUMENTS, MOST_CASES, MOST_LOCALS, MOST_PREDICATES};
+use cyc_basics::limits::MOST_PREDICATES;
 use heap_formula::{Def, Heap, bound_of_heap, exists_in_heap};
 use pred_defs::Defs;
 
@@ -20,7 +20,7 @@ fn case_excess(defs: &Defs, arity: u32, case: &Heap) -> Option<CaseExcess>
     if bound_of_heap(case) > arity {
         return Some(CaseExcess::Parameter);
     }
-    if exists_in_heap(case) > MOST_LOCALS as u32 {
+    if exists_in_heap(case) > defs.most().locals {
         return Some(CaseExcess::Locals);
     }
     None
@@ -48,11 +48,11 @@ fn definition_excess(defs: &Defs, place: usize, def: &Def) -> Option<DefinitionE
     if has_name(&defs.as_slice()[..place], name) {
         return Some(DefinitionExcess::Duplicate);
     }
-    if def.arity > MOST_ARGUMENTS as u32 {
+    if def.arity > defs.most().arguments {
         return Some(DefinitionExcess::Parameters);
     }
     let cases = def.cases.heaps();
-    if cases.is_empty() || cases.len() > MOST_CASES {
+    if cases.is_empty() || cases.len() > defs.most().cases as usize {
         return Some(DefinitionExcess::Cases);
     }
     cases_excess(defs, def.arity, cases)

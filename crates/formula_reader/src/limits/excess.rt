@@ -3,7 +3,7 @@
 /// What of a heap passes the limits of the formats.
 #[derive(Clone, Copy)]
 pub enum HeapExcess {
-    /// It has more than 64 pure atoms, or more spatial ones than the version allows.
+    /// It has more pure or spatial atoms than the version allows.
     Atoms,
     /// A variable has a number above 65,534.
     Variable,
@@ -19,7 +19,7 @@ pub enum CaseExcess {
     Heap(HeapExcess),
     /// A universal variable is no parameter.
     Parameter,
-    /// It has more than sixteen locals.
+    /// It has more locals than the version allows.
     Locals,
 }
 
@@ -30,9 +30,9 @@ pub enum DefinitionExcess {
     Name,
     /// A definition before has the name.
     Duplicate,
-    /// It has more than eight parameters.
+    /// It has more parameters than the version allows.
     Parameters,
-    /// It has no case, or more than sixteen.
+    /// It has no case, or more than the version allows.
     Cases,
     /// Its case at this place, from 0.
     Case(usize, CaseExcess),
@@ -56,7 +56,8 @@ pub enum JudgementExcess {
 pub enum ProblemExcess {
     /// The definition at this place, from 0.
     Definition(usize, DefinitionExcess),
-    /// The command of this line, from 1, which the version does not have.
+    /// The command of this line, from 1: the version does not have it, or it names a field past those that the version
+    /// allows.
     Command(usize),
     Goal(JudgementExcess),
 }

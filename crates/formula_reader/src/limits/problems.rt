@@ -29,7 +29,7 @@ pub fn problem_excess(
         return Some(excess);
     }
     let lines = program.lines();
-    if let Some(excess) = lines_excess(version, lines) {
+    if let Some(excess) = lines_excess(version, defs.most(), lines) {
         return Some(excess);
     }
     if let Some(excess) = judgement_excess(defs, lines.len(), goal) {

@@ -7,16 +7,17 @@ ghost use Rattle.heap_reader.specs.DefinitionFlaws.{term_flaw};
 ghost use Rattle.heap_reader.specs.declared.definitions.scope.Scope.TheVariants.{Outside};
 
 use crate::{Flaw, TermReader, ill, over};
-use cyc_basics::limits::{GREATEST_LOCAL, GREATEST_VARIABLE};
+use cyc_basics::limits::GREATEST_VARIABLE;
 use cyc_lex::{IllFault, What};
 use heap_formula::Term;
 use heap_syntax::definitions::TermTree;
 
-/// Where a term stands: outside cases, or in a case of a predicate with so many parameters.
+/// Where a term stands: outside cases, or in a case of a predicate with so many parameters, which may have so many
+/// local variables.
 #[derive(Clone, Copy)]
 pub enum Scope {
     Outside,
-    Case(u32),
+    Case { arity: u32, locals: u32 },
 }
 
 fn outside_number(at: usize, n: u32) -> Result<usize, Flaw>
@@ -47,14 +48,14 @@ impl TermReader for Scope {
             (_, TermTree::Nil) => Ok(at + 2),
             (Scope::Outside, TermTree::Univ(n)) => outside_number(at, n),
             (Scope::Outside, TermTree::Exist(n)) => outside_number(at, n),
-            (Scope::Case(arity), TermTree::Univ(n)) => {
+            (Scope::Case { arity, .. }, TermTree::Univ(n)) => {
                 if n >= arity {
                     return Err(ill(IllFault::Parameter, at + 1));
                 }
                 Ok(at + 3)
             }
-            (Scope::Case(_), TermTree::Exist(n)) => {
-                if n > GREATEST_LOCAL {
+            (Scope::Case { locals, .. }, TermTree::Exist(n)) => {
+                if n >= locals {
                     return Err(over(What::Locals, at + 1));
                 }
                 Ok(at + 3)

@@ -7,7 +7,7 @@ ghost use Rattle.heap_reader.specs.DefinitionValues.{definition_value as value_o
 
 use crate::definitions::scope::Scope;
 use crate::{Heads, definition_value};
-use cyc_basics::limits::MOST_PREDICATES;
+use cyc_basics::limits::{MOST_LOCALS, MOST_PREDICATES};
 use cyc_basics::memory::OutOfMemory;
 use heap_formula::Def;
 use heap_syntax::definitions::DefinitionTree;
@@ -22,7 +22,10 @@ fn definition(
     requires few { length heads.now ≤ MOST_PREDICATES }
     ensures { IfOk result (λ d. d ≡ value_of_definition heads.now (definition_of tree.now)) }
 {
-    let scope = Scope::Case(tree.arity);
+    let scope = Scope::Case {
+        arity: tree.arity,
+        locals: MOST_LOCALS,
+    };
     definition_value(alloc, heads, &scope, tree.name, tree.arity, &tree.cases)
 }
 

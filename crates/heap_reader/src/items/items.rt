@@ -13,7 +13,7 @@ use crate::{
     Flaw, Head, Heads, Item as FlawItem, definition_value, heads_of, heap_value, ill, over,
     walk_heap,
 };
-use cyc_basics::limits::MOST_PREDICATES;
+use cyc_basics::limits::{Limits, MOST_PREDICATES};
 use cyc_basics::memory::OutOfMemory;
 use cyc_lex::{IllFault, What};
 use heap_formula::{Def, Heap};
@@ -65,7 +65,7 @@ pub fn heap_item<'a>(
 /// Goes over the definition before which n stand, up to its first flaw.
 fn walk_definition(
     heads: &Heads<'_>,
-    most: u8,
+    most: Limits,
     n: usize,
     at: usize,
     tree: &DefinitionTree<'_>,
@@ -108,12 +108,16 @@ pub fn definition_item<'a>(
     requires { at + definition_span (definition_of tree) < 2 ^ 64 }
     ensures { IfOk result (λ item. IsDefinitionItem defs.now at (definition_of tree.entry) item) }
 {
+    let most = defs.most();
     let so_far = defs.as_slice();
     let heads = heads_with(alloc, so_far, tree.name, tree.arity)?;
-    match walk_definition(&heads, defs.most(), so_far.len(), at, &tree) {
+    match walk_definition(&heads, most, so_far.len(), at, &tree) {
         Ok(()) => {
-            let scope = Scope::Case(tree.arity);
             let (name, arity) = (tree.name, tree.arity);
+            let scope = Scope::Case {
+                arity,
+                locals: most.locals,
+            };
             let value = definition_value(alloc, &heads, &scope, name, arity, &tree.cases)?;
             Ok(Item::Value(value))
         }

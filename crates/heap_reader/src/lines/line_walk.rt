@@ -10,15 +10,15 @@ ghost use Rattle.heap_reader.specs.LineFlaws.{command_flaw, line_head_flaw, line
 
 use crate::lines::form::VariableReader;
 use crate::{Flaw, ill, over};
-use cyc_basics::limits::{MOST_ARGUMENTS, MOST_LINES};
+use cyc_basics::limits::{Limits, MOST_LINES};
 use cyc_lex::{IllFault, What};
 use heap_syntax::lines::{ChangeTree, CommandTree, LineTree, OperandTree};
 
 /// A number of fields, or of a field, at a token.
-fn field_number(at: usize, number: u32) -> Result<(), Flaw>
-    ensures { IsName result (flaw_of_field at number) }
+fn field_number(most: Limits, at: usize, number: u32) -> Result<(), Flaw>
+    ensures { IsName result (flaw_of_field most at number) }
 {
-    if number == 0 || number > MOST_ARGUMENTS as u32 {
+    if number == 0 || number > most.arguments {
         return Err(over(What::Fields, at));
     }
     Ok(())
@@ -50,51 +50,54 @@ fn operand<F: VariableReader>(
 
 fn load<F: VariableReader>(
     form: &F,
+    most: Limits,
     at: usize,
     address: OperandTree<F::Variable>,
     field: u32,
 ) -> Result<usize, Flaw>
     requires { at + operand_span F.span address + 2 < 2 ^ 64 }
     ensures { IsWalk result
-        (change_flaw (F.flaw form.now) F.span at (Load address field)) (at + operand_span F.span address + 2) }
+        (change_flaw (F.flaw form.now) F.span most at (Load address field)) (at + operand_span F.span address + 2) }
 {
     let number = operand(form, at, address)?;
-    field_number(number, field)?;
+    field_number(most, number, field)?;
     Ok(number + 2)
 }
 
 /// The field's number, and what is stored there.
 fn store<F: VariableReader>(
     form: &F,
+    most: Limits,
     at: usize,
     field: u32,
     value: OperandTree<F::Variable>,
 ) -> Result<usize, Flaw>
     requires { at + (2 + operand_span F.span value) < 2 ^ 64 }
     ensures { IsWalk result
-        (change_flaw (F.flaw form.now) F.span at (Store field value)) (at + (2 + operand_span F.span value)) }
+        (change_flaw (F.flaw form.now) F.span most at (Store field value)) (at + (2 + operand_span F.span value)) }
 {
-    field_number(at, field)?;
+    field_number(most, at, field)?;
     operand(form, at + 2, value)
 }
 
 /// What stands after a variable and the word after it, and the semicolon.
 fn change<F: VariableReader>(
     form: &F,
+    most: Limits,
     at: usize,
     tree: ChangeTree<F::Variable>,
 ) -> Result<usize, Flaw>
     requires { at + change_span F.span tree < 2 ^ 64 }
-    ensures { IsWalk result (change_flaw (F.flaw form.now) F.span at tree) (at + change_span F.span tree) }
+    ensures { IsWalk result (change_flaw (F.flaw form.now) F.span most at tree) (at + change_span F.span tree) }
 {
     match tree {
         ChangeTree::New(fields) => {
-            field_number(at + 1, fields)?;
+            field_number(most, at + 1, fields)?;
             Ok(at + 3)
         }
         ChangeTree::Assign(value) => operand(form, at, value),
-        ChangeTree::Load(address, field) => load(form, at, address, field),
-        ChangeTree::Store(field, value) => store(form, at, field, value),
+        ChangeTree::Load(address, field) => load(form, most, at, address, field),
+        ChangeTree::Store(field, value) => store(form, most, at, field, value),
     }
 }
 
@@ -119,12 +122,13 @@ fn branch<F: VariableReader>(
 
 fn command<F: VariableReader>(
     form: &F,
+    most: Limits,
     count: usize,
     at: usize,
     tree: CommandTree<F::Variable>,
 ) -> Result<usize, Flaw>
     requires { at + command_span F.span tree < 2 ^ 64 }
-    ensures { IsWalk result (command_flaw (F.flaw form.now) F.span count at tree) (at + command_span F.span tree) }
+    ensures { IsWalk result (command_flaw (F.flaw form.now) F.span most count at tree) (at + command_span F.span tree) }
 {
     match tree {
         CommandTree::Stop => Ok(at + 2),
@@ -140,10 +144,10 @@ fn command<F: VariableReader>(
         CommandTree::If(left, _, right, target) => {
             branch(form, count, at + 1, left, right, target)
         }
-        CommandTree::StoreAtNil(field, value) => store(form, at + 2, field, value),
+        CommandTree::StoreAtNil(field, value) => store(form, most, at + 2, field, value),
         CommandTree::Change(variable, tree) => {
             let behind = form.walk(at, variable)?;
-            change(form, behind, tree)
+            change(form, most, behind, tree)
         }
     }
 }
@@ -175,6 +179,7 @@ fn line_head(count: usize, n: usize, at: usize, number: u32, follows: bool) -> R
 
 fn line<F: VariableReader>(
     form: &F,
+    most: Limits,
     count: usize,
     n: usize,
     at: usize,
@@ -182,26 +187,28 @@ fn line<F: VariableReader>(
 ) -> Result<usize, Flaw>
     requires there { n < count }
     requires fits { at + line_span F.span tree < 2 ^ 64 }
-    ensures { IsWalk result (line_flaw (F.flaw form.now) F.span count n at tree) (at + line_span F.span tree) }
+    ensures { IsWalk result (line_flaw (F.flaw form.now) F.span most count n at tree) (at + line_span F.span tree) }
 {
     line_head(count, n, at, tree.number, goes_on(&tree.command))?;
-    command(form, count, at + 3, tree.command)
+    command(form, most, count, at + 3, tree.command)
 }
 
 /// Goes over the lines of a program, the first of which begins at a token, and gives the token after them. There are at
-/// most 4,096 lines, each numbered by its place from 1; jumps lead to lines, and the last line stops or jumps.
+/// most 4,096 lines, each numbered by its place from 1; jumps lead to lines, the last line stops or jumps, and cells
+/// have at most as many fields as `most` says.
 pub fn walk_lines<F: VariableReader>(
     form: &F,
+    most: Limits,
     at: usize,
     lines: &[LineTree<F::Variable>],
 ) -> Result<usize, Flaw>
     requires { at + total (line_span F.span) lines.now < 2 ^ 64 }
     ensures { IsWalk result
-        (lines_flaw (F.flaw form.now) F.span at lines.now) (at + total (line_span F.span) lines.now) }
+        (lines_flaw (F.flaw form.now) F.span most at lines.now) (at + total (line_span F.span) lines.now) }
 {
     let mut next = at;
     for (n, tree) in lines.iter().enumerate() {
-        next = line(form, lines.len(), n, next, *tree)?;
+        next = line(form, most, lines.len(), n, next, *tree)?;
     }
     Ok(next)
 }

@@ -107,7 +107,7 @@ fn has_free_branches(version: Version) -> bool
 {
     match version {
         Version::One => false,
-        Version::Two => true,
+        Version::Two | Version::Three => true,
     }
 }
 

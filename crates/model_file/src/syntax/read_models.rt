@@ -13,10 +13,10 @@ ghost use Rattle.model_file.specs.Trees.{Model, cell_of, model_of};
 use crate::syntax::cell_list::cells;
 use crate::syntax::numbers::values;
 use crate::syntax::tree::{CellTree, ModelTree};
+use crate::version::read_model_version;
 use cyc_grammar::{Cursor, Refusal, read_fault};
 use cyc_lex::{ReadFault, Token, Tokens};
 use heap_syntax::definitions::{HeapTree, definitions, heap};
-use heap_syntax::first_version;
 use std::alloc::Global;
 
 /// The values of the stack and the cells of the heap.
@@ -49,13 +49,14 @@ fn body<'a>(alloc: Global, cursor: &mut Cursor<'_, 'a>) -> Result<ModelTree<'a>,
 {
     cursor.keyword("cyclist")?;
     cursor.keyword("model")?;
-    first_version(cursor)?;
+    let version = read_model_version(cursor)?;
     cursor.symbol(";")?;
     let definitions = definitions(alloc, cursor)?;
     let (stack, cells) = state(alloc, cursor)?;
     let ask = question(alloc, cursor)?;
     cursor.symbol(";")?;
     Ok(ModelTree {
+        version,
         definitions,
         stack,
         cells,

@@ -1,5 +1,6 @@
 //! Trees of model files: what a text of the grammar says, with lists of any length and numbers of at most nine digits.
 
+use crate::version::ModelVersion;
 use heap_syntax::definitions::{DefinitionTree, HeapTree};
 
 /// A cell of the given heap, `address -> (fields)`, which has at least one field.
@@ -9,9 +10,11 @@ pub struct CellTree {
     pub fields: Vec<u32>,
 }
 
-/// A model file: the definitions, the values of the stack, the cells in the order of the text, and the asked formula.
+/// A model file: its version, the definitions, the values of the stack, the cells in the order of the text, and the
+/// asked formula.
 #[derive(Drop)]
 pub struct ModelTree<'a> {
+    pub version: ModelVersion,
     pub definitions: Vec<DefinitionTree<'a>>,
     pub stack: Vec<u32>,
     pub cells: Vec<CellTree>,

@@ -11,10 +11,10 @@ ghost use Rattle.model_file.specs.Trees.{cell_of, model_of};
 use crate::syntax::cell_list::write_cells;
 use crate::syntax::numbers::write_values;
 use crate::syntax::tree::{CellTree, ModelTree};
+use crate::version::write_model_version;
 use cyc_basics::memory::OutOfMemory;
 use cyc_lex::WordWriter;
 use heap_syntax::definitions::HeapTree;
-use heap_syntax::write_first_version;
 use heap_syntax::writing::{write_definitions, write_heap};
 use std::alloc::Global;
 
@@ -51,7 +51,7 @@ fn write_body(tree: &ModelTree<'_>, writer: &mut WordWriter) -> Result<(), OutOf
 {
     writer.name("cyclist")?;
     writer.name("model")?;
-    write_first_version(writer)?;
+    write_model_version(tree.version, writer)?;
     writer.symbol(";")?;
     write_definitions(&tree.definitions, writer)?;
     write_state(&tree.stack, &tree.cells, writer)?;

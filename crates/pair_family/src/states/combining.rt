@@ -1,12 +1,12 @@
 // A base pair is taken in.
 ghost use Rattle.std.specs.Prelude.{◌≡◌, ◌<◌, IfOk};
-ghost use Rattle.pair_family.specs.Labels.{said_by, all_pairs, told_by, combined_pairs, combined, IfApart};
+ghost use Rattle.pair_family.specs.Labels.{said_by, labels_at, combined_pairs, combined, IfApart};
 
 use crate::states::known::Known;
 use crate::states::labels::{
-    are_apart, cell_numbers, differences_of, differing_pairs, join_all, labels_of, numbers_then,
-    pairs_then, same_pairs,
+    are_apart, cell_numbers, differences_then, join_both, labels_of, numbers_then, same_pairs,
 };
+use crate::states::near::differing_pairs;
 use std::alloc::{AllocError, Global};
 
 /// What is said of labels.
@@ -24,24 +24,22 @@ fn say(
     Ok(Known::new(same, differ, cells))
 }
 
-/// What differences and cells say of some numbers, unless a difference is within a class.
-pub fn tell(
+/// What is said of labels, those of some numbers, unless a difference is within a class.
+fn tell(
     alloc: Global,
     labels: &[u64],
-    differences: &[(usize, usize)],
-    cells: &[usize],
+    differences: &[(u64, u64)],
+    cells: &[u64],
     kept: &[usize],
 ) -> Result<Option<Known>, AllocError>
-    ensures { IfOk result (IfApart (all_pairs labels.now differences.now cells.now)
-        (told_by labels.now differences.now cells.now kept.now)) }
+    ensures { IfOk result (IfApart differences.now
+        (said_by (labels_at labels.now kept.now) differences.now cells.now)) }
 {
-    let addresses = labels_of(alloc, labels, cells)?;
-    let all = differences_of(alloc, labels, differences, &addresses)?;
-    if !are_apart(&all) {
+    if !are_apart(differences) {
         return Ok(None);
     }
     let kept_labels = labels_of(alloc, labels, kept)?;
-    let known = say(alloc, &kept_labels, &all, &addresses)?;
+    let known = say(alloc, &kept_labels, differences, cells)?;
     Ok(Some(known))
 }
 
@@ -58,9 +56,16 @@ pub fn combine(
     ensures { IfOk result (IfApart (combined_pairs start.now state.now places.now pair.now)
         (combined start.now state.now places.now pair.now kept.now)) }
 {
-    let equations = pairs_then(alloc, state.same(), places, pair.same())?;
-    let labels = join_all(alloc, start, &equations)?;
-    let differences = pairs_then(alloc, state.differ(), places, pair.differ())?;
+    let labels = join_both(alloc, start, state.same(), places, pair.same())?;
     let cells = numbers_then(alloc, state.cells(), places, pair.cells())?;
-    tell(alloc, &labels, &differences, &cells, kept)
+    let addresses = labels_of(alloc, &labels, &cells)?;
+    let differences = differences_then(
+        alloc,
+        &labels,
+        state.differ(),
+        places,
+        pair.differ(),
+        &addresses,
+    )?;
+    tell(alloc, &labels, &differences, &addresses, kept)
 }

@@ -1,10 +1,44 @@
 // What is known of some terms.
 ghost use Rattle.std.specs.Prelude.{◌≡◌, ◌<◌, ◌+◌, MatchOption};
+ghost use Rattle.pair_family.specs.Equality.{with_number, numbers_digest, pairs_digest};
 
 use cyc_basics::memory::OutOfMemory;
 use std::alloc::Global;
 use std::hash::{Hash, Hasher};
 use std::marker::Model;
+
+/// An odd number whose bits are mixed: 2^64 over the golden ratio.
+const DIGEST_FACTOR: u64 = 0x9e37_79b9_7f4a_7c15;
+
+/// A digest after one more number.
+fn digest_with(digest: u64, number: u64) -> u64
+    ensures { result ≡ with_number digest number }
+{
+    digest.wrapping_add(number).wrapping_mul(DIGEST_FACTOR)
+}
+
+/// A digest of numbers, in their order.
+fn digest_of(numbers: &[usize]) -> u64
+    ensures { result ≡ numbers_digest numbers.now }
+{
+    let mut digest = 0;
+    for number in numbers {
+        digest = digest_with(digest, *number as u64);
+    }
+    digest
+}
+
+/// A digest of pairs, in their order.
+fn digest_of_pairs(pairs: &[(usize, usize)]) -> u64
+    ensures { result ≡ pairs_digest pairs.now }
+{
+    let mut digest = 0;
+    for pair in pairs {
+        let (left, right) = *pair;
+        digest = digest_with(digest_with(digest, left as u64), right as u64);
+    }
+    digest
+}
 
 /// A base pair: which of nil and the parameters of a predicate are equal, which differ, and which are cells; or the
 /// same of the terms that are kept, by number.
@@ -50,9 +84,9 @@ impl Hash for Known {
     ghost respects_eq = { base_pair_alike };
 
     fn hash<H: Hasher>(&self, state: &mut H) {
-        self.same.hash(state);
-        self.differ.hash(state);
-        self.cells.hash(state);
+        digest_of_pairs(&self.same).hash(state);
+        digest_of_pairs(&self.differ).hash(state);
+        digest_of(&self.cells).hash(state);
     }
 }
 

@@ -52,7 +52,8 @@ fn push_label_if(labels: &mut Vec<u64>, holds: bool, label: u64) -> Result<(), A
     Ok(())
 }
 
-fn push_if(
+/// Adds a pair where that is so.
+pub fn push_if(
     pairs: &mut Vec<(usize, usize)>,
     holds: bool,
     pair: (usize, usize),
@@ -109,9 +110,9 @@ fn push_differing(
     Ok(())
 }
 
-/// The pairs of classes that some difference joins.
+/// The pairs of classes that some difference joins, by lists of neighbours: the labels may be any numbers.
 #[tactic(auto, using(crate::proofs::Rows::next_row))]
-pub fn differing_pairs(
+pub fn far_pairs(
     alloc: Global,
     labels: &[u64],
     differences: &[(u64, u64)],
@@ -155,7 +156,7 @@ fn is_cell(labels: &[u64], cells: &[u64], i: usize) -> bool
     requires { i < length labels.now }
     ensures { result ≡ is_cell_label labels.now cells.now i }
 {
-    is_first(labels, i) && has_label(cells, labels[i])
+    has_label(cells, labels[i]) && is_first(labels, i)
 }
 
 fn push_number_if(numbers: &mut Vec<usize>, holds: bool, number: usize) -> Result<(), AllocError>
@@ -199,22 +200,51 @@ fn join(labels: &mut [u64], old: u64, new: u64)
     }
 }
 
+/// The class of one number joins that of another.
+fn join_two(labels: &mut Vec<u64>, left: usize, right: usize)
+    ensures { labels.new.items ≡ map (relabelled (slice_index labels.old.items right)
+        (slice_index labels.old.items left)) labels.old.items }
+{
+    let old = label_at(labels.as_slice(), right);
+    let new = label_at(labels.as_slice(), left);
+    join(labels.as_mut_slice(), old, new);
+}
+
 /// The labels after equations between numbers.
-pub fn join_all(
+fn join_pairs(labels: &mut Vec<u64>, equations: &[(usize, usize)])
+    ensures { labels.new.items ≡ joined_labels labels.old.items equations.now }
+{
+    for equation in equations {
+        let (left, right) = *equation;
+        join_two(labels, left, right);
+    }
+}
+
+/// The labels after equations between the numbers at some places.
+fn join_placed(labels: &mut Vec<u64>, places: &[usize], equations: &[(usize, usize)])
+    ensures { labels.new.items ≡ joined_labels labels.old.items (pairs_at places.now equations.now) }
+{
+    for equation in equations {
+        let (left, right) = *equation;
+        join_two(labels, place_at(places, left), place_at(places, right));
+    }
+}
+
+/// The labels after equations between numbers, and between the numbers at some places.
+#[tactic(auto, using(crate::proofs::Rows::joined_append))]
+pub fn join_both(
     alloc: Global,
     start: &[u64],
-    equations: &[(usize, usize)],
+    own: &[(usize, usize)],
+    places: &[usize],
+    others: &[(usize, usize)],
 ) -> Result<Vec<u64>, AllocError>
-    ensures { IfOk result (λ v. v.items ≡ joined_labels start.now equations.now) }
+    ensures { IfOk result (λ v. v.items ≡ joined_labels start.now (own.now ++ pairs_at places.now others.now)) }
 {
     let mut labels = Vec::with_capacity(alloc, start.len())?;
     labels.extend_from_slice(start)?;
-    for equation in equations {
-        let (left, right) = *equation;
-        let old = label_at(&labels, right);
-        let new = label_at(&labels, left);
-        join(&mut labels, old, new);
-    }
+    join_pairs(&mut labels, own);
+    join_placed(&mut labels, places, others);
     Ok(labels)
 }
 
@@ -287,23 +317,6 @@ fn push_each_two(out: &mut Vec<(u64, u64)>, cells: &[u64]) -> Result<(), AllocEr
     Ok(())
 }
 
-/// All differences of labels: the stated ones, and those of the cells.
-pub fn differences_of(
-    alloc: Global,
-    labels: &[u64],
-    differences: &[(usize, usize)],
-    cells: &[u64],
-) -> Result<Vec<(u64, u64)>, AllocError>
-    ensures { IfOk result (λ v. v.items
-        ≡ label_pairs labels.now differences.now ++ cell_pairs (slice_index labels.now 0) cells.now) }
-{
-    let mut out = Vec::with_capacity(alloc, differences.len())?;
-    push_label_pairs(&mut out, labels, differences)?;
-    push_against(&mut out, cells, label_at(labels, 0))?;
-    push_each_two(&mut out, cells)?;
-    Ok(out)
-}
-
 fn place_at(places: &[usize], i: usize) -> usize
     ensures { result ≡ slice_index places.now i }
 {
@@ -313,27 +326,47 @@ fn place_at(places: &[usize], i: usize) -> usize
     }
 }
 
-/// Some pairs, and others at some places.
-pub fn pairs_then(
+/// The labels of some pairs of numbers at some places.
+fn push_placed_pairs(
+    out: &mut Vec<(u64, u64)>,
+    labels: &[u64],
+    places: &[usize],
+    pairs: &[(usize, usize)],
+) -> Result<(), AllocError>
+    ensures { IfOk result (λ _. out.new.items
+        ≡ out.old.items ++ label_pairs labels.now (pairs_at places.now pairs.now)) }
+{
+    for pair in pairs {
+        let (left, right) = *pair;
+        out.push((
+            label_at(labels, place_at(places, left)),
+            label_at(labels, place_at(places, right)),
+        ))?;
+    }
+    Ok(())
+}
+
+/// All differences of labels: the stated ones, of numbers and of the numbers at some places, and those of the cells.
+pub fn differences_then(
     alloc: Global,
+    labels: &[u64],
     own: &[(usize, usize)],
     places: &[usize],
     others: &[(usize, usize)],
-) -> Result<Vec<(usize, usize)>, AllocError>
-    ensures { IfOk result (λ v. v.items ≡ own.now ++ pairs_at places.now others.now) }
+    cells: &[u64],
+) -> Result<Vec<(u64, u64)>, AllocError>
+    ensures { IfOk result (λ v. v.items ≡ label_pairs labels.now (own.now ++ pairs_at places.now others.now)
+        ++ cell_pairs (slice_index labels.now 0) cells.now) }
 {
     let mut out = Vec::with_capacity(alloc, own.len().saturating_add(others.len()))?;
-    for pair in own {
-        let (left, right) = *pair;
-        out.push((left, right))?;
-    }
-    for pair in others {
-        let (left, right) = *pair;
-        out.push((place_at(places, left), place_at(places, right)))?;
-    }
+    push_label_pairs(&mut out, labels, own)?;
+    push_placed_pairs(&mut out, labels, places, others)?;
+    push_against(&mut out, cells, label_at(labels, 0))?;
+    push_each_two(&mut out, cells)?;
     Ok(out)
 }
 
+/// Some numbers, and others at some places.
 pub fn numbers_then(
     alloc: Global,
     own: &[usize],

@@ -3,6 +3,7 @@
 mod combining;
 mod known;
 mod labels;
+mod near;
 mod states;
 
 pub use combining::combine;

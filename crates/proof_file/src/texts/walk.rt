@@ -1,6 +1,6 @@
 // A walk over a file's tree in the order of its tokens, up to the first flaw. Each function is given the number of the
-// part's first token and gives that of the token after it and the one that follows every part of its kind. A heap has
-// at most `most` spatial atoms.
+// part's first token and gives that of the token after it and the one that follows every part of its kind. `most` are
+// the limits of the file's version.
 ghost use Rattle.std.specs.Prelude.{◌≡◌, ◌+◌, ◌<◌, ◌^◌, map};
 ghost use Rattle.proof_syntax.specs.Trees.{node_of, file_of};
 ghost use Rattle.heap_reader.specs.Spans.{total};
@@ -9,6 +9,7 @@ ghost use Rattle.proof_file.specs.Spans.{node_span};
 ghost use Rattle.proof_file.specs.Flaws.{headings, node_flaw, first_node, file_flaw as first_flaw};
 
 use crate::{ProgramVariables, walk_node};
+use cyc_basics::limits::Limits;
 use heap_reader::definitions::walk_definitions;
 use heap_reader::lines::walk_lines;
 use heap_reader::{Flaw, Heads};
@@ -16,7 +17,7 @@ use proof_syntax::{FileTree, NodeTree};
 
 fn nodes(
     heads: &Heads<'_>,
-    most: u8,
+    most: Limits,
     count: usize,
     at: usize,
     trees: &[NodeTree<'_>],
@@ -39,9 +40,9 @@ fn statements(heads: &Heads<'_>, tree: &FileTree<'_>) -> Result<usize, Flaw>
     ensures { IsWalk result (first_flaw (file_of tree.now))
         (first_node (file_of tree.now) + total node_span (map node_of tree.now.nodes.items)) }
 {
-    let most = tree.version.most_spatial();
+    let most = tree.version.limits();
     let first_line = walk_definitions(heads, most, 4, &tree.definitions)?;
-    let first_node = walk_lines(&ProgramVariables, first_line, &tree.lines)?;
+    let first_node = walk_lines(&ProgramVariables, most, first_line, &tree.lines)?;
     nodes(heads, most, tree.lines.len(), first_node, &tree.nodes)
 }
 

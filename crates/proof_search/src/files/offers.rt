@@ -2,6 +2,7 @@
 // clauses are laws.
 
 ghost use Rattle.std.specs.Prelude.{◌≡◌, ℕ, ◌<◌, List, length, Some, slice_get};
+ghost use Rattle.cyc_basics.specs.Limits.{AreLimits};
 ghost use Rattle.heap_formula.specs.Words.{Each};
 ghost use Rattle.heap_formula.specs.declared.judgements.Judgement.{Judgement};
 ghost use Rattle.heap_formula.specs.declared.proof_rules.Link.{Link};
@@ -17,8 +18,8 @@ ghost use Rattle.rule_book.specs.Limits.{IsDefinitionWithin, IsJudgementWithin, 
 
 /// The rules that a goal within the limits is offered bring in nothing beyond them.
 pub fn rules_stay_within()
-    ensures { (t : Theory) (nodes : List GraphNode) (goal : ℕ) (j : Judgement) → 0 < t.most
-        → Each (IsDefinitionWithin t.most t.definitions) t.definitions → IsProgram t.lines
+    ensures { (t : Theory) (nodes : List GraphNode) (goal : ℕ) (j : Judgement) → 0 < t.most.spatial
+        → AreLimits t.most → Each (IsDefinitionWithin t.most t.definitions) t.definitions → IsProgram t.lines
         → IsJudgementWithin t.most t.definitions (length t.lines) j
         → Each (IsRuleWithin t.most t.definitions) (rules_offered t nodes goal j) }
 {}

@@ -8,7 +8,7 @@ ghost use Rattle.run_file.specs.Limits.{is_short_run};
 ghost use Rattle.run_file.specs.Places.{is_short_place};
 
 use crate::Outcome;
-use cyc_basics::limits::{MOST_ARGUMENTS, MOST_CELLS, MOST_VALUES};
+use cyc_basics::limits::{Limits, MOST_VALUES};
 use cyc_basics::memory::OutOfMemory;
 use general_models::runs::{Pick, ValuePair};
 use goto_lang::Cells;
@@ -32,56 +32,56 @@ fn is_short_stack(values: &[u64]) -> bool
     values.len() <= MOST_VALUES && are_short_numbers(values)
 }
 
-fn is_short_cell(address: u64, fields: &[u64]) -> bool
-    ensures { result ≡ is_short_cell address fields.now }
+fn is_short_cell(most: Limits, address: u64, fields: &[u64]) -> bool
+    ensures { result ≡ is_short_cell most address fields.now }
 {
     is_short_number(address)
         && !fields.is_empty()
-        && fields.len() <= MOST_ARGUMENTS
+        && fields.len() <= most.arguments as usize
         && are_short_numbers(fields)
 }
 
 /// Whether what stands at the address is short.
-fn is_short_place(heap: &Cells, address: u64) -> bool
-    ensures { result ≡ is_short_place (cell_at heap.now address) address }
+fn is_short_place(most: Limits, heap: &Cells, address: u64) -> bool
+    ensures { result ≡ is_short_place most (cell_at heap.now address) address }
 {
     match heap.get(address) {
         None => true,
-        Some(fields) => is_short_cell(address, fields),
+        Some(fields) => is_short_cell(most, address, fields),
     }
 }
 
-fn are_short_places(heap: &Cells, addresses: &[u64]) -> bool
-    ensures { result ≡ list_all (λ a. is_short_place (cell_at heap.now a) a) addresses.now }
+fn are_short_places(most: Limits, heap: &Cells, addresses: &[u64]) -> bool
+    ensures { result ≡ list_all (λ a. is_short_place most (cell_at heap.now a) a) addresses.now }
 {
     addresses
         .iter()
-        .all(|address| is_short_place(heap, *address))
+        .all(|address| is_short_place(most, heap, *address))
 }
 
-fn is_short_heap(alloc: Global, heap: &Cells) -> Result<bool, OutOfMemory>
-    ensures { IfOk result (λ b. b ≡ is_short_heap heap.now) }
+fn is_short_heap(alloc: Global, most: Limits, heap: &Cells) -> Result<bool, OutOfMemory>
+    ensures { IfOk result (λ b. b ≡ is_short_heap most heap.now) }
 {
-    if heap.len() > MOST_CELLS {
+    if heap.len() > most.cells as usize {
         return Ok(false);
     }
     let addresses = heap.addresses(alloc)?;
-    Ok(are_short_places(heap, &addresses))
+    Ok(are_short_places(most, heap, &addresses))
 }
 
-fn is_short_pick(pick: &Pick) -> bool
-    ensures { result ≡ is_short_pick pick.now }
+fn is_short_pick(most: Limits, pick: &Pick) -> bool
+    ensures { result ≡ is_short_pick most pick.now }
 {
     match pick {
-        Pick::Cell(address, fields) => is_short_cell(*address, fields.as_slice()),
+        Pick::Cell(address, fields) => is_short_cell(most, *address, fields.as_slice()),
         Pick::Jumps(_) => true,
     }
 }
 
-fn are_short_picks(picks: &[Pick]) -> bool
-    ensures { result ≡ list_all is_short_pick picks.now }
+fn are_short_picks(most: Limits, picks: &[Pick]) -> bool
+    ensures { result ≡ list_all (is_short_pick most) picks.now }
 {
-    picks.iter().all(|pick| is_short_pick(pick))
+    picks.iter().all(|pick| is_short_pick(most, pick))
 }
 
 fn are_both_short(first: u32, second: u32) -> bool
@@ -117,16 +117,17 @@ fn is_short_outcome(outcome: &Outcome) -> bool
     }
 }
 
-/// Whether a run file may have the stack, the heap, the picks and the outcome.
+/// Whether a run file within these limits may have the stack, the heap, the picks and the outcome.
 pub fn is_short_run(
     alloc: Global,
+    most: Limits,
     stack: &[u64],
     heap: &Cells,
     picks: &[Pick],
     outcome: &Outcome,
 ) -> Result<bool, OutOfMemory>
-    ensures { IfOk result (λ b. b ≡ is_short_run stack.now heap.now picks.now outcome.now) }
+    ensures { IfOk result (λ b. b ≡ is_short_run most stack.now heap.now picks.now outcome.now) }
 {
-    let is_short = is_short_heap(alloc, heap)?;
-    Ok(is_short_stack(stack) && is_short && are_short_picks(picks) && is_short_outcome(outcome))
+    let is_short = is_short_heap(alloc, most, heap)?;
+    Ok(is_short_stack(stack) && is_short && are_short_picks(most, picks) && is_short_outcome(outcome))
 }

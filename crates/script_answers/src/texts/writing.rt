@@ -156,7 +156,8 @@ impl Text<'_> {
     ) -> Result<(), OutOfMemory> {
         let mut fit = FitNames::new(alloc);
         let parameters = fit_names(alloc, &mut fit, names, def.arity as usize, "a")?;
-        let locals = fit_names(alloc, &mut fit, &[], 16, "l")?;
+        let most = self.defs.most().locals as usize;
+        let locals = fit_names(alloc, &mut fit, &[], most, "l")?;
         let scope = Scope {
             universals: &parameters,
             existentials: &locals,
@@ -218,6 +219,7 @@ pub fn problem_text(
     text.push(match version {
         Version::One => "cyclist problem 1;\n",
         Version::Two => "cyclist problem 2;\n",
+        Version::Three => "cyclist problem 3;\n",
     })?;
     for (number, def) in defs.as_slice().iter().enumerate() {
         match names.parameters.get(number) {

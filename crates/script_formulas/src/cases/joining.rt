@@ -7,7 +7,7 @@ ghost use Rattle.script_formulas.specs.Joining.{join_with, join_all, all_of};
 use crate::cases::case::{Case, MOST_QUANTIFIED};
 use crate::cases::refused::{Refused, Unsupported};
 use crate::cases::shifting::{push_atoms, push_pures};
-use cyc_basics::limits::{MOST_PURE, MOST_SPATIAL};
+use crate::limits::problem_limits;
 use std::alloc::Global;
 
 /// Cases of a formula, at most.
@@ -37,10 +37,13 @@ fn size_refusal(a: &Case, b: &Case) -> Option<Unsupported>
     if a.quantified() > MOST_QUANTIFIED || b.quantified() > MOST_QUANTIFIED - a.quantified() {
         return Some(Unsupported::Quantifiers);
     }
-    if a.pure().len() > MOST_PURE || b.pure().len() > MOST_PURE - a.pure().len() {
+    let limits = problem_limits();
+    let pure = limits.pure as usize;
+    if a.pure().len() > pure || b.pure().len() > pure - a.pure().len() {
         return Some(Unsupported::PureAtoms);
     }
-    if a.atoms().len() > MOST_SPATIAL || b.atoms().len() > MOST_SPATIAL - a.atoms().len() {
+    let spatial = limits.spatial as usize;
+    if a.atoms().len() > spatial || b.atoms().len() > spatial - a.atoms().len() {
         return Some(Unsupported::HeapAtoms);
     }
     None

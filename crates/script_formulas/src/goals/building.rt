@@ -1,11 +1,13 @@
 // Definitions of a problem.
 ghost use Rattle.std.specs.Prelude.{◌≡◌, ◌<◌, [], ◌∷◌, length, IfOk, OnOk};
+ghost use Rattle.heap_syntax.specs.Versions.{limits};
+ghost use Rattle.heap_syntax.specs.declared.version.Version.TheVariants.{Two};
 ghost use Rattle.script_formulas.specs.Translating.{impossible};
 ghost use Rattle.script_formulas.specs.Defining.{HasPushed, HasDefined, HasMore};
 
 use crate::cases::{Refused, Unsupported};
 use crate::goals::names::free_name;
-use cyc_basics::limits::{MOST_ARGUMENTS, MOST_CASES, MOST_SPATIAL};
+use crate::limits::problem_limits;
 use heap_formula::{Args, Heap, Pure, Spatial, Term};
 use pred_defs::Defs;
 use std::alloc::Global;
@@ -23,7 +25,7 @@ pub fn false_heap(alloc: Global) -> Result<Heap, Refused>
     Ok(Heap::from_lists(pure, Vec::new(alloc)))
 }
 
-/// Sixteen or fewer of the cases of a predicate, which get a predicate of their own.
+/// As many of the cases of a predicate as one may have, or fewer, which get a predicate of their own.
 #[derive(Drop)]
 struct Part {
     owner: String,
@@ -61,7 +63,7 @@ impl Building {
     {
         Building {
             alloc,
-            defs: Defs::new(alloc, MOST_SPATIAL as u8),
+            defs: Defs::new(alloc, problem_limits()),
             names: Vec::new(alloc),
             most,
             parts: Vec::new(alloc),
@@ -94,7 +96,7 @@ impl Building {
         if heaps.is_empty() {
             return Err(Refused::Unsupported(Unsupported::Cases));
         }
-        if arity > MOST_ARGUMENTS {
+        if arity > self.defs.most().arguments as usize {
             return Err(Refused::Unsupported(Unsupported::Parameters));
         }
         match self.defs.push(name.as_str(), arity as u32, heaps) {
@@ -136,14 +138,14 @@ impl Building {
         Ok(())
     }
 
-    /// Parts of sixteen cases, and the calls of them.
+    /// Parts of as many cases as a predicate may have, and the calls of them.
     fn spread(&mut self, owner: &str, arity: usize, heaps: Vec<Heap>) -> Result<Vec<Heap>, Refused>
         ensures { IfOk result (λ _. self.new.defs ≡ self.old.defs) }
     {
         let mut calls = Vec::new(self.alloc);
         let mut part = Vec::new(self.alloc);
         for heap in heaps {
-            if part.len() >= MOST_CASES {
+            if part.len() >= problem_limits().cases as usize {
                 self.push_part(&mut calls, owner, arity, part)?;
                 part = Vec::new(self.alloc);
             }
@@ -162,11 +164,11 @@ impl Building {
     }
 
     fn define_spread(&mut self, owner: &str, arity: usize, heaps: Vec<Heap>) -> Result<(), Refused>
-        requires { MOST_CASES < length heaps.items }
+        requires { (limits Two).cases < length heaps.items }
         ensures { OnOk result (HasDefined self.old.defs.list arity heaps.items self.new.defs.list) }
     {
         let calls = self.spread(owner, arity, heaps)?;
-        if calls.len() > MOST_CASES {
+        if calls.len() > problem_limits().cases as usize {
             return Err(Refused::Unsupported(Unsupported::Cases));
         }
         self.push_few(arity, &calls)
@@ -180,7 +182,7 @@ impl Building {
         if count == 0 {
             return self.define_false(arity);
         }
-        if count <= MOST_CASES {
+        if count <= problem_limits().cases as usize {
             return self.push_few(arity, &heaps);
         }
         self.define_spread(owner, arity, heaps)

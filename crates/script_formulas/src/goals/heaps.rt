@@ -7,7 +7,7 @@ ghost use Rattle.script_formulas.specs.Translating.{IsHeapOf, AreHeapsOf};
 
 use crate::ScriptAtom;
 use crate::cases::{Case, Refused, Unsupported};
-use cyc_basics::limits::{MOST_LOCALS, MOST_PURE, MOST_SPATIAL};
+use crate::limits::problem_limits;
 use heap_formula::{Args, Heap, Pure, Spatial, Term};
 use std::alloc::Global;
 
@@ -219,10 +219,11 @@ pub fn heap_of(
 {
     let pure = pures_of(alloc, variables, case.pure())?;
     let spatial = spatials_of(alloc, numbers, variables, case.atoms())?;
-    if pure.len() > MOST_PURE {
+    let limits = problem_limits();
+    if pure.len() > limits.pure as usize {
         return Err(Refused::Unsupported(Unsupported::PureAtoms));
     }
-    if spatial.len() > MOST_SPATIAL {
+    if spatial.len() > limits.spatial as usize {
         return Err(Refused::Unsupported(Unsupported::HeapAtoms));
     }
     Ok(Heap::from_lists(pure, spatial))
@@ -239,7 +240,7 @@ pub fn heaps_of(
 {
     let mut heaps = Vec::new(alloc);
     for case in cases {
-        if u32::from(case.quantified()) > MOST_LOCALS {
+        if u32::from(case.quantified()) > problem_limits().locals {
             return Err(Refused::Unsupported(Unsupported::Quantifiers));
         }
         heaps.push(heap_of(alloc, numbers, variables, case)?)?;

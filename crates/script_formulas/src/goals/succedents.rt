@@ -9,7 +9,8 @@ use crate::ScriptAtom;
 use crate::cases::{Case, Refused, Unsupported};
 use crate::goals::building::{Building, false_heap};
 use crate::goals::heaps::{Numbers, Variables, heap_of, heaps_of};
-use cyc_basics::limits::{MOST_ARGUMENTS, MOST_DISJUNCTS};
+use crate::limits::problem_limits;
+use cyc_basics::limits::MOST_DISJUNCTS;
 use cyc_basics::memory::OutOfMemory;
 use heap_formula::{Args, Disjuncts, Heap, Pure, Spatial, Term};
 use std::alloc::Global;
@@ -76,7 +77,7 @@ fn call(alloc: Global, number: u16, constants: &[u16]) -> Result<Heap, Refused>
     ensures { IfOk result (λ h. h ≡ call_of number constants.now) }
 {
     let terms = constant_terms(alloc, constants)?;
-    if terms.len() > MOST_ARGUMENTS {
+    if terms.len() > problem_limits().arguments as usize {
         return Err(Refused::Unsupported(Unsupported::Disjunction));
     }
     let mut spatial = Vec::new(alloc);

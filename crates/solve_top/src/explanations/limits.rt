@@ -2,9 +2,8 @@
 
 use crate::explanations::parts::{Part, push_parts};
 use cyc_basics::limits::{
-    MOST_ARGUMENTS, MOST_CASES, MOST_CELLS, MOST_CONSTRUCTORS, MOST_DISJUNCTS, MOST_LEFT,
-    MOST_LINES, MOST_LOCALS, MOST_NODES, MOST_PREDICATES, MOST_PURE, MOST_SPATIAL, MOST_TERMS,
-    MOST_VALUES, MOST_VARIABLES, VARIABLE_NUMBERS,
+    MOST_CONSTRUCTORS, MOST_DISJUNCTS, MOST_LEFT, MOST_LINES, MOST_NODES, MOST_PREDICATES,
+    MOST_TERMS, MOST_VALUES, MOST_VARIABLES, VARIABLE_NUMBERS,
 };
 use cyc_basics::memory::OutOfMemory;
 use cyc_lex::{Token, What};
@@ -19,29 +18,34 @@ struct Limit {
 }
 
 fn limit_of(what: What, version: Version) -> Limit {
+    let limits = version.limits();
     let (owner, most, counted) = match what {
         What::Predicates => ("a text", MOST_PREDICATES, "definitions"),
         What::Arguments => (
             "a predicate or a cell",
-            MOST_ARGUMENTS,
+            limits.arguments as usize,
             "arguments or fields",
         ),
-        What::Cases => ("a definition", MOST_CASES, "cases"),
-        What::Pure => ("a heap", MOST_PURE, "pure atoms"),
-        What::Spatial => ("a heap", version.most_spatial() as usize, "spatial atoms"),
+        What::Cases => ("a definition", limits.cases as usize, "cases"),
+        What::Pure => ("a heap", limits.pure as usize, "pure atoms"),
+        What::Spatial => ("a heap", limits.spatial as usize, "spatial atoms"),
         What::Locals => (
             "a case",
-            MOST_LOCALS as usize,
+            limits.locals as usize,
             "names that are no parameters",
         ),
         What::Disjuncts => ("a goal", MOST_DISJUNCTS, "disjuncts"),
         What::Lines => ("a program", MOST_LINES, "lines"),
         What::ProgramVariables => ("a program", MOST_VARIABLES as usize, "variables"),
-        What::Fields => ("a cell", MOST_ARGUMENTS, "fields, the first with number 1"),
+        What::Fields => (
+            "a cell",
+            limits.arguments as usize,
+            "fields, the first with number 1",
+        ),
         What::Nodes => ("a proof", MOST_NODES, "nodes"),
         What::Variable => ("a goal", VARIABLE_NUMBERS as usize, "variables"),
         What::Stack => ("a stack", MOST_VALUES, "values"),
-        What::Cells => ("a model", MOST_CELLS, "cells"),
+        What::Cells => ("a model", limits.cells as usize, "cells"),
         What::Constructors => ("a theory", MOST_CONSTRUCTORS, "constructors"),
         What::Atoms => ("a side", MOST_LEFT, "atoms"),
         What::Terms => ("a sequent", MOST_TERMS, "terms"),
@@ -57,6 +61,7 @@ fn limit_of(what: What, version: Version) -> Limit {
 fn version_of(tokens: &[Token<'_>]) -> Version {
     match tokens.get(2) {
         Some(token) if token.text == "2" => Version::Two,
+        Some(token) if token.text == "3" => Version::Three,
         _ => Version::One,
     }
 }
@@ -83,14 +88,34 @@ pub fn push_limit(out: &mut String, tokens: &[Token<'_>], what: What) -> Result<
             Part::Text(limit.counted),
         ],
     )?;
-    match (what, version) {
-        (What::Spatial, Version::One) => push_parts(
-            out,
-            &[
-                Part::Text("; in version 2 it has at most "),
-                Part::Number(MOST_SPATIAL as u64),
-            ],
-        ),
-        _ => Ok(()),
+    push_wider(out, what, version, limit.most)
+}
+
+/// Appends the first later version that allows more, if there is one.
+fn push_wider(
+    out: &mut String,
+    what: What,
+    version: Version,
+    most: usize,
+) -> Result<(), OutOfMemory> {
+    let later: &[(Version, u64)] = match version {
+        Version::One => &[(Version::Two, 2), (Version::Three, 3)],
+        Version::Two => &[(Version::Three, 3)],
+        Version::Three => &[],
+    };
+    for (wider, number) in later {
+        let limit = limit_of(what, *wider);
+        if limit.most > most {
+            return push_parts(
+                out,
+                &[
+                    Part::Text("; in version "),
+                    Part::Number(*number),
+                    Part::Text(" it has at most "),
+                    Part::Number(limit.most as u64),
+                ],
+            );
+        }
     }
+    Ok(())
 }

@@ -5,9 +5,9 @@ use Rattle.buchi_core.proofs.Bits.{one_pow}
 use Rattle.cyc_basics.proofs.Bits.{one_zero}
 use Rattle.buchi_core.proofs.masks.bit_of.Goals as goal
 
-pub returns-then-position-lt32 : goal.returns-then-position-lt32
-returns-then-position-lt32 c q l = one_pow c.args.position q c.if-position-lt32.true
+pub returns-then-position-lt-MOST_POSITIONS : goal.returns-then-position-lt-MOST_POSITIONS
+returns-then-position-lt-MOST_POSITIONS c q l = one_pow c.args.position q c.if-position-lt-MOST_POSITIONS.true
 
-pub returns-else-position-lt32 : goal.returns-else-position-lt32
-returns-else-position-lt32 c q l = one_zero q ∙ sym (ne_eqb c.args.position q
-    (λ e. omega (arith, e, c.if-position-lt32.false)))
+pub returns-else-position-lt-MOST_POSITIONS : goal.returns-else-position-lt-MOST_POSITIONS
+returns-else-position-lt-MOST_POSITIONS c q l = one_zero q ∙ sym (ne_eqb c.args.position q
+    (λ e. omega (arith, e, c.if-position-lt-MOST_POSITIONS.false)))

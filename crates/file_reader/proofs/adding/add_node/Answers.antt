@@ -1,5 +1,5 @@
 use Rattle.std.proofs.Common.{◌≡◌, ◌+◌, Some, Err, subst, arith}
-use Rattle.heap_syntax.specs.Versions.{most_spatial}
+use Rattle.heap_syntax.specs.Versions.{limits}
 use Rattle.heap_reader.proofs.WithinSpans.{flaw_within}
 use Rattle.proof_syntax.specs.Trees.{node_of}
 use Rattle.proof_file.specs.Building.{IsNodeMade}
@@ -13,7 +13,7 @@ use Rattle.file_reader.proofs.adding.add_node.Goals as goal
 
 pub flaw-requires-clause-later : goal.flaw-requires-clause-later
 flaw-requires-clause-later c =
-    let most = most_spatial c.args.known.now.version in
+    let most = limits c.args.known.now.version in
     let at = c.args.found.now.tokens in
     let x = node_of c.args.tree.now in
     let is : node_flaw most c.args.heads.now c.args.known.now.lines c.len-n.result at x
@@ -26,7 +26,7 @@ flaw-requires-clause-later c =
 
 pub flaw-requires-clause-within : goal.flaw-requires-clause-within
 flaw-requires-clause-within c =
-    let most = most_spatial c.args.known.now.version in
+    let most = limits c.args.known.now.version in
     let at = c.args.found.now.tokens in
     let x = node_of c.args.tree.now in
     let flaw = node_flaw most c.args.heads.now c.args.known.now.lines c.len-n.result at x in

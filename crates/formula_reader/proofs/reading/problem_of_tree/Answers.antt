@@ -6,7 +6,7 @@ use Rattle.std.specs.List.{list_all}
 use Rattle.pred_defs.specs.Book.{DefinitionBook}
 use Rattle.pred_defs.specs.Faults.{closed_fault}
 use Rattle.goto_lang.specs.Faults.{program_fault}
-use Rattle.heap_syntax.specs.Versions.{most_spatial}
+use Rattle.heap_syntax.specs.Versions.{limits}
 use Rattle.heap_reader.specs.LineValues.{line_value, variable_value, program_value}
 use Rattle.problem_syntax.specs.declared.numbering.tree.NumberedDefinition.{NumberedDefinition}
 use Rattle.problem_syntax.specs.Numbered.{definition_of, problem_of}
@@ -73,7 +73,7 @@ invariant_of-result c =
     ∙ (λ i. map (definition_value (same i)) (map definition_of (c.deref.ensures.value i))) in
     let lines_are = c.in_ok-program.ensures ∙ (λ i. program_value (c.deref-2.ensures.value i)) in
     let goal_is = c.in_ok-goal.ensures ∙ (λ i. goal_value (same i) p.goal) in
-    let limit_is = ap (λ (b : DefinitionBook). b.most) c.from_vec.ensures ∙ c.most_spatial.ensures.value in
+    let limit_is = ap (λ (b : DefinitionBook). b.most) c.from_vec.ensures ∙ c.limits.ensures.value in
     record {
       limit = limit_is;
       within = ∣ said_within p text right c.from_vec.result.most c.from_vec.result.list c.in_ok-program.program
@@ -81,6 +81,6 @@ invariant_of-result c =
       closed = (λ i. closed_fault (definitions_are i)) ∙ is_closed p text right;
       known = (λ i. goal_fault (definitions_are i) (goal_is i)) ∙ is_known p text right;
       universal = (λ i. is_universal_heap (antecedent (goal_is i))) ∙ has_universal_antecedent p text right;
-      short = (λ i. list_all (is_short_heap (most_spatial p.version)) (goal_heaps (goal_is i))) ∙ is_short p text right;
+      short = (λ i. list_all (is_short_heap (limits p.version)) (goal_heaps (goal_is i))) ∙ is_short p text right;
       line = (λ i. has_line (length (lines_are i)) (goal_is i)) ∙ has_its_line p text right;
     }

@@ -8,8 +8,8 @@ use Rattle.formula_reader.proofs.walk.some_parameters.Given as goal
 
 abbrev pub invariant-loop-n : goal.invariant-loop-n
 invariant-loop-n l =
-    (listed_flaw (parameter_flaw (map text_of l.parameters)) parameter_span l.n l.next
-    (map text_of (drop l.n l.parameters)) ≡ listed_flaw (parameter_flaw (map text_of l.parameters))
+    (listed_flaw (parameter_flaw l.most (map text_of l.parameters)) parameter_span l.n l.next
+    (map text_of (drop l.n l.parameters)) ≡ listed_flaw (parameter_flaw l.most (map text_of l.parameters))
     parameter_span 0 l.fn.at (map text_of l.parameters))
     × (l.next + total parameter_span (map text_of (drop l.n l.parameters))
     ≡ l.fn.at + total parameter_span (map text_of l.parameters))

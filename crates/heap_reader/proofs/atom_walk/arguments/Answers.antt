@@ -4,7 +4,7 @@ use Rattle.heap_reader.proofs.atom_walk.arguments.Goals as goal
 
 pub loop-n-preserved : goal.loop-n-preserved
 loop-n-preserved g c =
-    passed (argument_flaw (g.F.TermReader.flaw c.args.form.now) g.F.TermReader.span)
+    passed (argument_flaw (g.F.TermReader.flaw c.args.form.now) g.F.TermReader.span c.args.most)
     g.F.TermReader.span c.loop-n.n c.loop-n.next c.in_ok-next.next c.args.terms.now c.index-terms-n.result _ _
     c.loop-n-test.true c.index-terms-n.is c.in_ok-next.ensures c.loop-n.invariant
 

@@ -5,7 +5,8 @@ use Rattle.heap_reader.proofs.atom_walk.pure_atoms.Goals as goal
 
 pub loop-n-preserved : goal.loop-n-preserved
 loop-n-preserved g c =
-    passed (pure_flaw (g.F.TermReader.flaw c.args.form.now) g.F.TermReader.span) (pure_span g.F.TermReader.span)
+    passed (pure_flaw (g.F.TermReader.flaw c.args.form.now) g.F.TermReader.span c.args.most)
+    (pure_span g.F.TermReader.span)
     c.loop-n.n c.loop-n.next c.in_ok-next.next c.args.trees.now c.index-trees-n.result _ _ c.loop-n-test.true
     c.index-trees-n.is c.in_ok-next.ensures c.loop-n.invariant
 

@@ -13,17 +13,17 @@ use Rattle.heap_reader.proofs.DefinitionFitting.{definitions_small, outside_smal
 use Rattle.model_file.specs.declared.syntax.tree.CellTree.{CellTree}
 use Rattle.model_file.specs.Grammar.{model}
 use Rattle.model_file.specs.Trees.{Model, cell_of, model_of}
-use Rattle.model_file.specs.Flaws.{first_atom, model_flaw}
+use Rattle.model_file.specs.Flaws.{allowed, first_atom, model_flaw}
 use Rattle.model_file.specs.Small.{IsSmallCell}
 use Rattle.model_file.specs.Values.{cells_value}
 use Rattle.model_file.specs.Written.{tree_of}
-use Rattle.model_file.proofs.Parts.{faultless}
+use Rattle.model_file.proofs.Parts.{faultless, limits_fit}
 use Rattle.model_file.proofs.ModelsAgain.{sorted, sorted_fits, sorted_flawless, tree_again, model_small}
 use Rattle.model_file.proofs.reading.model_of_tree.Goals as goal
 
 small_definitions : (m : Model) → model_flaw m ≡ None
     → Each IsSmallDefinition m.definitions × (length m.definitions ≤ 4096)
-small_definitions m e = definitions_small 32 (omega arith) (headings m.definitions) 4 m.definitions
+small_definitions m e = definitions_small (allowed m) (limits_fit m.version) (headings m.definitions) 4 m.definitions
     (faultless m e).definitions
 
 few_heads : (heads : List Heading) (m : Model) → heads ≡ headings m.definitions → model_flaw m ≡ None
@@ -60,7 +60,8 @@ cells-requires c =
 pub heap_value-requires-clause-small : goal.heap_value-requires-clause-small
 heap_value-requires-clause-small c =
     let m = model_of c.args.tree.now in
-    outside_small 32 (omega arith) (headings m.definitions) (first_atom m) m.ask (faultless m c.requires.right).ask
+    outside_small (allowed m) (limits_fit m.version) (headings m.definitions) (first_atom m) m.ask
+    (faultless m c.requires.right).ask
 
 pub heap_value-requires-clause-few : goal.heap_value-requires-clause-few
 heap_value-requires-clause-few c = few_heads c.args.heads.now (model_of c.args.tree.now)
@@ -77,10 +78,10 @@ invariant_of-result c =
     c.deref-3.ensures.value in
     let ask_is = c.in_ok-ask.ensures ∙ (λ i. heap_value term_value (c.requires.known i) m.ask) in
     let same : sorted m
-    ≡ tree_of c.from_vec-defs.result.list c.from_vec-stack.result c.in_ok-heap.heap c.in_ok-ask.ask = sym
-    ((λ i. tree_of (list_is i) (stack_is i) (heap_is i) (ask_is i)) ∙ tree_again m c.requires.right) in
+    ≡ tree_of m.version c.from_vec-defs.result.list c.from_vec-stack.result c.in_ok-heap.heap c.in_ok-ask.ask = sym
+    ((λ i. tree_of m.version (list_is i) (stack_is i) (heap_is i) (ask_is i)) ∙ tree_again m c.requires.right) in
     record {
-      limit = ap (λ (b : DefinitionBook). b.most) c.from_vec-defs.ensures;
+      limit = ap (λ (b : DefinitionBook). b.most) c.from_vec-defs.ensures ∙ c.limits.ensures.value;
       fits = subst (λ (t : Model). model.fits t) same (sorted_fits m c.requires.fits);
       flawless = ap model_flaw (sym same) ∙ sorted_flawless m c.requires.right;
     }

@@ -9,9 +9,9 @@ pub narrow_numbers-requires : goal.narrow_numbers-requires
 narrow_numbers-requires c =
     let m = c.args.model.now in
     subst (λ (ns : List ℕ). Each IsShortNumber ns) (sym c.as_slice.ensures)
-    (model_short (tree_of m.defs.list m.stack m.heap m.ask) m.fits).0
+    (model_short (tree_of m.version m.defs.list m.stack m.heap m.ask) m.fits).0
 
 pub cells-requires : goal.cells-requires
 cells-requires c =
     let m = c.args.model.now in
-    (model_short (tree_of m.defs.list m.stack m.heap m.ask) m.fits).1
+    (model_short (tree_of m.version m.defs.list m.stack m.heap m.ask) m.fits).1

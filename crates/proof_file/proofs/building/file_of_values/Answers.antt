@@ -4,7 +4,7 @@ use Rattle.heap_formula.specs.declared.commands.Command.{Command}
 use Rattle.heap_formula.specs.Definitions.{Definition as DefinitionValue}
 use Rattle.proof_syntax.specs.Grammar.{file}
 use Rattle.proof_syntax.specs.Trees.{File, Line}
-use Rattle.heap_syntax.specs.Versions.{most_spatial}
+use Rattle.heap_syntax.specs.Versions.{limits}
 use Rattle.proof_file.specs.FileNodes.{FileNode}
 use Rattle.proof_file.specs.Readable.{are_readable, are_universal_commands, are_at_lines, all_have_few_cases}
 use Rattle.proof_file.specs.Flaws.{headings, file_flaw}
@@ -45,7 +45,7 @@ invariant_of-result c =
       at_lines = (λ i. are_at_lines (count i) (nodes_are i)) ∙ file_at_lines f right;
       cases = subst (λ (ds : List DefinitionValue). all_have_few_cases ds ≡ true) (sym said.definitions)
           (cases_few f.definitions hs small.definitions);
-      limit = said.most ∙ ap most_spatial (sym said.version);
+      limit = said.most ∙ ap limits (sym said.version);
       fits = subst (λ (t : File). file.fits t) same fits;
       flawless = ap file_flaw (sym same) ∙ right;
     }

@@ -1,5 +1,7 @@
 use Rattle.std.proofs.Common.{map, arith}
 use Rattle.std.proofs.lemmas.List.{length-map}
+use Rattle.heap_syntax.specs.Versions.{limits}
+use Rattle.heap_reader.proofs.Fitting.{most_fits}
 use Rattle.heap_reader.proofs.Programs.{lines_are_program}
 use Rattle.proof_syntax.specs.Trees.{definition_of}
 use Rattle.proof_file.specs.Building.{front_of}
@@ -28,5 +30,6 @@ from_vec-defs-requires-clause-few c =
 pub program-requires : goal.program-requires
 program-requires c =
     let f = front_of c.args.version (map definition_of c.args.definitions.now) c.args.lines.now in
-    lines_are_program variable_flaw variable_span variable_value variable_few (first_line f) f.lines
+    lines_are_program variable_flaw variable_span variable_value variable_few (limits c.args.version)
+    (most_fits c.args.version) (first_line f) f.lines
     (file_parts f c.requires.right).1

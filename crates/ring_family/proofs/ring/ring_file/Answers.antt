@@ -3,6 +3,7 @@ use Rattle.std.proofs.Common.{◌≡◌, ◌+◌, ◌*◌, ◌<◌, ◌≤◌, �
 use Rattle.std.proofs.Common.{subst}
 use Rattle.heap_formula.specs.declared.commands.Command.{Command}
 use Rattle.heap_formula.specs.Definitions.{Definition}
+use Rattle.heap_syntax.specs.Versions.{limits}
 use Rattle.rule_book.specs.Graphs.{Node}
 use Rattle.pred_defs.specs.Book.{DefinitionBook}
 use Rattle.trace_pairs.specs.Lasso.{AllProgress}
@@ -26,12 +27,12 @@ use Rattle.ring_family.proofs.ring.ring_file.Goals as goal
 -- what holds of the family's lists
 kept : (P : DefinitionBook → List Command → List FileNode → Type 0) (k : ℕ) (book : DefinitionBook)
     (program : List Command) (nodes : List FileNode) →
-    book ≡ record { most = 16; list = ring_definitions k } → program ≡ [] → nodes ≡ file_nodes (ring_nodes k)
-    → P (record { most = 16; list = ring_definitions k }) [] (file_nodes (ring_nodes k)) → P book program nodes
+    book ≡ record { most = limits One; list = ring_definitions k } → program ≡ [] → nodes ≡ file_nodes (ring_nodes k)
+    → P (record { most = limits One; list = ring_definitions k }) [] (file_nodes (ring_nodes k)) → P book program nodes
 kept P k book program nodes d p n x =
     subst (λ (y : DefinitionBook). P y program nodes) (sym d)
-    (subst (λ (y : List Command). P (record { most = 16; list = ring_definitions k }) y nodes) (sym p)
-    (subst (λ (y : List FileNode). P (record { most = 16; list = ring_definitions k }) [] y) (sym n) x))
+    (subst (λ (y : List Command). P (record { most = limits One; list = ring_definitions k }) y nodes) (sym p)
+    (subst (λ (y : List FileNode). P (record { most = limits One; list = ring_definitions k }) [] y) (sym n) x))
 
 pub from_vec-defs-requires-clause-few : goal.from_vec-defs-requires-clause-few
 from_vec-defs-requires-clause-few c =
@@ -44,7 +45,7 @@ invariant_of-result c =
     let one = c.requires.from_one in
     let few = c.requires.most in
     let d = c.from_vec-defs.ensures ∙ (λ i. record {
-      most = c.most_spatial.ensures.value i;
+      most = c.limits.ensures.value i;
       list = c.in_ok-definitions.ensures i;
     }) in
     let p = c.in_ok-program.ensures in
@@ -58,7 +59,7 @@ invariant_of-result c =
       universal = all' (λ book program nodes. are_universal_commands program ≡ true) refl;
       at_lines = all' (λ book program nodes. are_at_lines (length program) nodes ≡ true) (at_lines k);
       cases = all' (λ book program nodes. all_have_few_cases book.list ≡ true) (few_cases k);
-      limit = all' (λ book program nodes. book.most ≡ 16) refl;
+      limit = all' (λ book program nodes. book.most ≡ limits One) refl;
       fits = all' (λ book program nodes. file.fits (tree_of One book.list program nodes)) (file_fits k one few);
       flawless = all' (λ book program nodes. file_flaw (tree_of One book.list program nodes) ≡ None)
           (no_flaw k one few);
@@ -74,7 +75,7 @@ pub returns-clause-short : goal.returns-clause-short
 returns-clause-short c =
     let k = c.args.k in
     let d = c.from_vec-defs.ensures ∙ (λ i. record {
-      most = c.most_spatial.ensures.value i;
+      most = c.limits.ensures.value i;
       list = c.in_ok-definitions.ensures i;
     }) in
     let n = c.from_vec-nodes.ensures ∙ c.in_ok-nodes.ensures in
@@ -86,7 +87,7 @@ pub returns-clause-correct : goal.returns-clause-correct
 returns-clause-correct c =
     let k = c.args.k in
     let d = c.from_vec-defs.ensures ∙ (λ i. record {
-      most = c.most_spatial.ensures.value i;
+      most = c.limits.ensures.value i;
       list = c.in_ok-definitions.ensures i;
     }) in
     let n = (c.from_vec-nodes.ensures ∙ c.in_ok-nodes.ensures) ∙ nodes_again (ring_nodes k) in
@@ -104,7 +105,7 @@ pub returns-clause-at_most : goal.returns-clause-at_most
 returns-clause-at_most c =
     let k = c.args.k in
     let d = c.from_vec-defs.ensures ∙ (λ i. record {
-      most = c.most_spatial.ensures.value i;
+      most = c.limits.ensures.value i;
       list = c.in_ok-definitions.ensures i;
     }) in
     let n = (c.from_vec-nodes.ensures ∙ c.in_ok-nodes.ensures) ∙ nodes_again (ring_nodes k) in
@@ -116,7 +117,7 @@ pub returns-clause-at_least : goal.returns-clause-at_least
 returns-clause-at_least c =
     let k = c.args.k in
     let d = c.from_vec-defs.ensures ∙ (λ i. record {
-      most = c.most_spatial.ensures.value i;
+      most = c.limits.ensures.value i;
       list = c.in_ok-definitions.ensures i;
     }) in
     let n = (c.from_vec-nodes.ensures ∙ c.in_ok-nodes.ensures) ∙ nodes_again (ring_nodes k) in

@@ -4,7 +4,6 @@ use Rattle.heap_formula.specs.Words.{Each}
 use Rattle.rule_table.specs.Tests.{is_universal_heap}
 use Rattle.heap_reader.specs.Values.{heap_value}
 use Rattle.heap_reader.specs.LineValues.{program_value}
-use Rattle.heap_syntax.specs.declared.version.Version.TheVariants.{Two}
 use Rattle.heap_syntax.specs.declared.definitions.tree.DefinitionTree.{DefinitionTree}
 use Rattle.heap_syntax.specs.DefinitionTrees.{definition_of}
 use Rattle.heap_reader.specs.DefinitionFlaws.{heading, headings}
@@ -18,9 +17,11 @@ use Rattle.model_file.specs.declared.syntax.tree.CellTree.{CellTree}
 use Rattle.model_file.specs.Trees.{cell_of}
 use Rattle.model_file.specs.Small.{IsSmallCell}
 use Rattle.model_file.specs.Values.{cells_value}
+use Rattle.model_file.proofs.Parts.{limits_fit}
+use Rattle.heap_syntax.specs.Versions.{limits}
 use Rattle.run_file.specs.Grammar.{run}
 use Rattle.run_file.specs.Trees.{Run, pick_of, run_of}
-use Rattle.run_file.specs.Flaws.{from_place, run_flaw}
+use Rattle.run_file.specs.Flaws.{allowed, from_place, run_flaw}
 use Rattle.run_file.specs.Written.{tree_of}
 use Rattle.run_file.proofs.Parts.{faultless, line_there, program_long}
 use Rattle.run_file.proofs.RunsAgain.{sorted, sorted_fits, sorted_flawless, tree_again, state_universal, run_small}
@@ -32,19 +33,20 @@ front_values-requires-clause-known c = c.requires.known
 
 pub front_values-requires-clause-right : goal.front_values-requires-clause-right
 front_values-requires-clause-right c =
-    (λ i. file_flaw (front_of Two (map definition_of (c.deref.ensures.value i)) (c.deref-2.ensures.value i)))
+    (λ i. file_flaw (front_of (c.format.ensures i) (map definition_of (c.deref.ensures.value i))
+    (c.deref-2.ensures.value i)))
     ∙ (faultless (run_of c.args.tree.now) c.requires.right).front
 
 pub heap_value-requires-clause-small : goal.heap_value-requires-clause-small
 heap_value-requires-clause-small c =
     let r = run_of c.args.tree.now in
-    outside_small 32 (omega arith) (headings r.definitions) (from_place r + 3) r.precondition
+    outside_small (allowed r) (limits_fit r.version) (headings r.definitions) (from_place r + 3) r.precondition
     (faultless r c.requires.right).precondition
 
 pub heap_value-requires-clause-few : goal.heap_value-requires-clause-few
 heap_value-requires-clause-few c =
     let r = run_of c.args.tree.now in
-    let few = (definitions_small 32 (omega arith) (headings r.definitions) 4 r.definitions
+    let few = (definitions_small (allowed r) (limits_fit r.version) (headings r.definitions) 4 r.definitions
     (faultless r c.requires.right).definitions).1 in
     omega (arith, few, ap length c.requires.known, length-map r.definitions heading)
 
@@ -68,12 +70,13 @@ invariant_of-result c =
     let picks_are = c.in_ok-picks.ensures ∙ ap (map pick_of) c.deref-5.ensures.value in
     let long = program_long r.lines in
     let same : sorted r
-    ≡ tree_of c.in_ok-front.front.defs.list c.in_ok-front.front.program r.line c.in_ok-precondition.precondition
-    c.from_vec-stack.result c.in_ok-heap.heap c.in_ok-picks.picks.items c.in_ok-outcome.outcome =
-    sym ((λ i. tree_of (definitions_are i) (program_is i) r.line (state_is i) (stack_is i) (heap_is i) (picks_are i)
-    (c.in_ok-outcome.ensures.cases i)) ∙ tree_again r c.requires.right) in
+    ≡ tree_of r.version c.in_ok-front.front.defs.list c.in_ok-front.front.program r.line
+    c.in_ok-precondition.precondition c.from_vec-stack.result c.in_ok-heap.heap c.in_ok-picks.picks.items
+    c.in_ok-outcome.outcome =
+    sym ((λ i. tree_of r.version (definitions_are i) (program_is i) r.line (state_is i) (stack_is i) (heap_is i)
+    (picks_are i) (c.in_ok-outcome.ensures.cases i)) ∙ tree_again r c.requires.right) in
     record {
-      limit = c.in_ok-front.ensures.most;
+      limit = c.in_ok-front.ensures.most ∙ ap limits c.format.ensures;
       from_one = there.0;
       to_last = (let last = there.1 in omega (arith, last, long, ap length program_is));
       universal = ap are_universal_commands program_is ∙ commands_universal r.lines;
@@ -86,7 +89,8 @@ pub returns : goal.returns
 returns c =
     let r = run_of c.args.tree.now in
     record {
-      most = c.in_ok-front.ensures.most;
+      version = refl;
+      most = c.in_ok-front.ensures.most ∙ ap limits c.format.ensures;
       definitions = c.in_ok-front.ensures.definitions
           ∙ (λ i. map (definition_value (c.requires.known i)) (map definition_of (c.deref.ensures.value i)));
       program = c.in_ok-front.ensures.program ∙ ap program_value c.deref-2.ensures.value;

@@ -34,6 +34,7 @@ returns c =
     let cells = c.in_ok-cells.ensures in
     let picks = c.in_ok-picks.ensures ∙ c.deref.ensures.value in
     λ i. record {
+      version = r.version;
       definitions = definitions i;
       lines = lines i;
       line = r.line;

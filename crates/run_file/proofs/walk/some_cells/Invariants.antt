@@ -8,6 +8,6 @@ use Rattle.run_file.proofs.walk.some_cells.Given as goal
 
 abbrev pub invariant-loop-n : goal.invariant-loop-n
 invariant-loop-n l =
-    (listed_flaw (cell_flaw (map cell_of l.trees)) cell_span l.n l.next (map cell_of (drop l.n l.trees))
-    ≡ cells_flaw l.fn.at (map cell_of l.trees)) × (l.next + total cell_span (map cell_of (drop l.n l.trees))
+    (listed_flaw (cell_flaw l.fn.most (map cell_of l.trees)) cell_span l.n l.next (map cell_of (drop l.n l.trees))
+    ≡ cells_flaw l.fn.most l.fn.at (map cell_of l.trees)) × (l.next + total cell_span (map cell_of (drop l.n l.trees))
     ≡ l.fn.at + total cell_span (map cell_of l.trees))

@@ -8,6 +8,6 @@ use Rattle.run_file.proofs.walk.some_picks.Given as goal
 
 abbrev pub invariant-loop-tree : goal.invariant-loop-tree
 invariant-loop-tree l =
-    (listed_flaw (λ n. pick_flaw) pick_span l.tree-index l.next (map pick_of (drop l.tree-index l.trees))
-    ≡ picks_flaw l.fn.at (map pick_of l.trees)) × (l.next + total pick_span
+    (listed_flaw (λ n. pick_flaw l.fn.most) pick_span l.tree-index l.next (map pick_of (drop l.tree-index l.trees))
+    ≡ picks_flaw l.fn.most l.fn.at (map pick_of l.trees)) × (l.next + total pick_span
     (map pick_of (drop l.tree-index l.trees)) ≡ l.fn.at + total pick_span (map pick_of l.trees))

@@ -1,5 +1,6 @@
 use Rattle.std.proofs.Common.{◌≡◌, Option, Some, List, ap, sym, subst, ◌∙◌}
 use Rattle.std.specs.Prelude.{slice_get, ℕ}
+use Rattle.cyc_basics.specs.declared.limits.Limits.{Limits}
 use Rattle.heap_formula.specs.declared.atoms.Spatial.{Spatial}
 use Rattle.heap_formula.specs.declared.atoms.Spatial.TheVariants.{Pred}
 use Rattle.heap_formula.specs.declared.proof_rules.RuleFault.TheVariants.{NoSuchCase}
@@ -21,7 +22,7 @@ returns c =
     let case_is : slice_get (cases_of c.args.defs.now.list c.in-Pred.q) c.args.c
     ≡ Some c.in-Some.case.now = ap (λ (xs : List SymbolicHeap). slice_get xs c.args.c) (sym c.cases.ensures)
     ∙ c.in-Some.ensures in
-    let here = subst (λ (most : ℕ). IsAnswer r (limited most
+    let here = subst (λ (most : Limits). IsAnswer r (limited most
     (one (right_by a b c.args.k (right_term c.in-Pred.args (heap_exists b)) c.in-Some.case.now))))
     c.most-most.ensures.value c.unfold_case.ensures in
     subst (λ (y : Spatial). IsAnswer r (calls y (λ q ts. finds (slice_get (cases_of c.args.defs.now.list q) c.args.c)

@@ -1,4 +1,4 @@
--- There are at most as many entries as positions, and at most 32.
+-- There are at most as many entries as positions, and at most MOST_POSITIONS.
 use Rattle.std.proofs.Common.{arith, length, ap}
 use Rattle.buchi_core.specs.View.{members, entries_of}
 use Rattle.buchi_core.proofs.Packed.{few_settled}

@@ -12,4 +12,4 @@ pub returns : goal.returns
 returns c =
     let e = c.in_ok-model.ensures in
     subst (λ text. IfOk c.write_model.result (λ v. v.items ≡ text))
-    (λ i. text_of_model (e.definitions i) (e.stack i) (e.heap i) (e.ask i)) c.write_model.ensures.text
+    (λ i. text_of_model (e.version i) (e.definitions i) (e.stack i) (e.heap i) (e.ask i)) c.write_model.ensures.text

@@ -5,9 +5,9 @@ use Rattle.counter_model.proofs.files.states.is_plain_state.Goals as goal
 
 pub returns : goal.returns
 returns c t =
-    plain_state c.args.stack.now c.args.heap.now c.as_slice-values.result.now c.in_ok-addresses.addresses.items
-    c.deref.result.now
+    plain_state c.args.most c.args.stack.now c.args.heap.now c.as_slice-values.result.now
+    c.in_ok-addresses.addresses.items c.deref.result.now
     c.as_slice-values.ensures (grind (arith, nat_tests, c.if-values-gt-MOST_VALUES.false))
     (c.if-not-are_short.ensures refl)
-    c.in_ok-addresses.ensures.value (grind (arith, nat_tests, c.if-len-gt-MOST_CELLS.false)) c.deref.ensures.value
+    c.in_ok-addresses.ensures.value (grind (arith, nat_tests, c.if-len-most.false)) c.deref.ensures.value
     (c.are_plain.ensures t)

@@ -1,11 +1,13 @@
 -- What holds of the problem's definitions and program holds of their copies.
 use Rattle.std.proofs.Common.{◌≡◌, true, List, None, length, sym, subst}
+use Rattle.cyc_basics.specs.Limits.{AreLimits}
 use Rattle.heap_formula.specs.declared.commands.Command.{Command}
 use Rattle.pred_defs.specs.Book.{DefinitionBook}
 use Rattle.proof_syntax.specs.Grammar.{file}
 use Rattle.proof_file.specs.Readable.{are_universal_commands, are_at_lines, all_have_few_cases}
 use Rattle.proof_file.specs.Flaws.{file_flaw}
 use Rattle.proof_file.specs.Written.{tree_of}
+use Rattle.heap_reader.proofs.Fitting.{most_fits}
 use Rattle.formula_reader.proofs.Within.{problem_keeps}
 use Rattle.formula_reader.proofs.ProgramLines.{commands_universal}
 use Rattle.formula_reader.proofs.DefinitionTrees.{few_cases}
@@ -39,8 +41,9 @@ invariant_of-result-clause-at_lines c =
 pub invariant_of-result-clause-cases : goal.invariant_of-result-clause-cases
 invariant_of-result-clause-cases c =
     let p = c.args.problem.now in
+    let bounded = subst AreLimits (sym p.limit) (most_fits p.version) in
     subst (λ (book : DefinitionBook). all_have_few_cases book.list ≡ true) (sym c.in_ok-defs.ensures.cases)
-    (few_cases p.defs.most p.defs.list p.defs.list (problem_keeps p).definitions)
+    (few_cases p.defs.most bounded p.defs.list p.defs.list (problem_keeps p).definitions)
 
 pub invariant_of-result-clause-fits : goal.invariant_of-result-clause-fits
 invariant_of-result-clause-fits c =

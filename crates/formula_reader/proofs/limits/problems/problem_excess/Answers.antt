@@ -1,4 +1,5 @@
 use Rattle.std.proofs.Common.{◌∙◌, List, length, refl, sym, ap, subst}
+use Rattle.cyc_basics.specs.declared.limits.Limits.{Limits}
 use Rattle.heap_formula.specs.declared.commands.Command.{Command}
 use Rattle.rule_book.specs.Limits.{IsJudgementWithin}
 use Rattle.formula_reader.proofs.Exact.{definitions_over, lines_over, goal_over, problem_exact}
@@ -14,7 +15,8 @@ pub returns-in-Some-lines_excess-clause-exact : goal.returns-in-Some-lines_exces
 returns-in-Some-lines_excess-clause-exact c =
     lines_over c.args.version c.args.defs.now.most c.args.defs.now.list c.args.program.now c.args.goal.now
     c.lines_excess.result c.in-Some-lines_excess.excess c.lines-lines.result.now c.lines-lines.ensures.value
-    c.lines_excess.ensures c.in-Some-lines_excess.is
+    (c.lines_excess.ensures ∙ ap (λ (most : Limits). lines_excess c.args.version most c.lines-lines.result.now)
+    c.most.ensures.value) c.in-Some-lines_excess.is
 
 pub returns-in-Some-judgement_excess-clause-exact : goal.returns-in-Some-judgement_excess-clause-exact
 returns-in-Some-judgement_excess-clause-exact c =
@@ -32,7 +34,9 @@ returns-clause-exact c =
     let judged = subst (λ (cs : List Command). IsJudgementWithin most ds (length cs) c.args.goal.now)
     c.lines-lines.ensures.value (c.judgement_excess.ensures.exact.0 c.in_default-judgement_excess.is) in
     let none = sym c.definitions_excess.ensures.first ∙ c.in_default.is in
-    let known = ap (lines_excess c.args.version) (sym c.lines-lines.ensures.value) ∙ sym c.lines_excess.ensures
+    let found = c.lines_excess.ensures ∙ ap (λ (m : Limits). lines_excess c.args.version m c.lines-lines.result.now)
+    c.most.ensures.value in
+    let known = ap (lines_excess c.args.version most) (sym c.lines-lines.ensures.value) ∙ sym found
     ∙ c.in_default-lines_excess.is in (
       λ nothing.
           problem_exact c.args.version most ds c.args.program.now c.args.goal.now c.definitions_excess.ensures.few

@@ -1,5 +1,6 @@
-use Rattle.std.proofs.Common.{◌≡◌, ◌∙◌, ◌≤◌, List, Some, None, refl, sym, ap, subst, ℕ}
+use Rattle.std.proofs.Common.{◌≡◌, ◌∙◌, List, Some, None, refl, sym, ap, subst}
 use Rattle.std.proofs.lemmas.List.{append-nil}
+use Rattle.cyc_basics.specs.Limits.{AreLimits}
 use Rattle.heap_reader.specs.Trees.{Heading, defined_headings}
 use Rattle.heap_reader.specs.Flaws.{heap_flaw}
 use Rattle.heap_reader.specs.Values.{heap_value}
@@ -14,7 +15,7 @@ use Rattle.heap_reader.proofs.items.items.heap_item.Goals as goal
 
 pub heap_value-requires-clause-small : goal.heap_value-requires-clause-small
 heap_value-requires-clause-small c = outside_small c.most.result
-    (subst (λ (n : ℕ). n ≤ 32) (sym c.most.ensures.value) c.most.ensures.fits) c.in_ok-heads.heads c.args.at
+    (subst AreLimits (sym c.most.ensures.value) c.most.ensures.fits) c.in_ok-heads.heads c.args.at
     (heap_of c.args.tree) c.in-Ok.ensures.0
 
 pub returns-in-Ok : goal.returns-in-Ok

@@ -7,9 +7,9 @@ use Rattle.heap_reader.proofs.lines.line_walk.walk_lines.Given as goal
 
 abbrev pub invariant-loop-n : goal.invariant-loop-n
 invariant-loop-n g l =
-    (listed_flaw (line_flaw (g.F.VariableReader.flaw l.form) g.F.VariableReader.span (length l.lines))
+    (listed_flaw (line_flaw (g.F.VariableReader.flaw l.form) g.F.VariableReader.span l.most (length l.lines))
     (line_span g.F.VariableReader.span) l.n l.next (drop l.n l.lines)
-    ≡ listed_flaw (line_flaw (g.F.VariableReader.flaw l.form) g.F.VariableReader.span (length l.lines))
+    ≡ listed_flaw (line_flaw (g.F.VariableReader.flaw l.form) g.F.VariableReader.span l.most (length l.lines))
     (line_span g.F.VariableReader.span) 0 l.fn.at l.lines)
     × (l.next + total (line_span g.F.VariableReader.span) (drop l.n l.lines)
     ≡ l.fn.at + total (line_span g.F.VariableReader.span) l.lines)

@@ -9,3 +9,7 @@ returns-in-One c = rw (c.in-One.is) refl
 pub returns-in-Two : goal.returns-in-Two
 unfolding digits
 returns-in-Two c = rw (c.in-Two.is) refl
+
+pub returns-in-Three : goal.returns-in-Three
+unfolding digits
+returns-in-Three c = rw (c.in-Three.is) refl

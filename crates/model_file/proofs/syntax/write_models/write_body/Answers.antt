@@ -13,10 +13,10 @@ use Rattle.model_file.proofs.syntax.write_models.write_body.Goals as goal
 
 pub returns : goal.returns
 returns c = on-ok c.symbol-2.result
-    (λ e. body-wrote c.args.writer.now c.name.new.self c.name-2.new.self c.write_first_version.new.writer
+    (λ e. body-wrote c.args.writer.now c.name.new.self c.name-2.new.self c.write_model_version.new.writer
     c.symbol.new.self c.write_definitions.new.writer c.write_state.new.writer c.write_question.new.writer
     c.symbol-2.new.self (model_of c.args.tree.now)
-    c.in_ok-name.ensures.ok c.in_ok-name-2.ensures.ok c.in_ok-write_first_version.ensures c.in_ok-symbol.ensures.ok
+    c.in_ok-name.ensures.ok c.in_ok-name-2.ensures.ok c.in_ok-write_model_version.ensures c.in_ok-symbol.ensures.ok
     (c.in_ok-write_definitions.ensures ∙ ap (λ (xs : List DefinitionTree). write_all c.symbol.new.self
     (definitions.words (map definition_of xs))) c.deref.ensures.value)
     (c.in_ok-write_state.ensures ∙ ap (λ (ns : List ℕ). write_all c.write_definitions.new.writer

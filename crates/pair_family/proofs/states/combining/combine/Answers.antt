@@ -1,5 +1,7 @@
-use Rattle.std.proofs.Common.{rules, ◌≡◌, ◌++◌, List, ℕ, IfOk, ap, ◌∙◌, subst}
-use Rattle.pair_family.specs.Labels.{joined_labels, all_pairs, told_by, IfApart, pairs_at, numbers_at}
+use Rattle.std.proofs.Common.{rules, ◌≡◌, ◌++◌, List, ℕ, IfOk, ◌∙◌, subst}
+use Rattle.std.specs.Prelude.{slice_index}
+use Rattle.pair_family.specs.Labels.{joined_labels, label_pairs, cell_pairs, labels_at, said_by, IfApart, pairs_at}
+use Rattle.pair_family.specs.Labels.{numbers_at}
 use Rattle.pair_family.proofs.states.combining.combine.Goals as goal
 
 pub returns : goal.returns
@@ -9,14 +11,25 @@ returns c =
     let places = c.args.places.now in
     let p = c.args.pair.now in
     let kept = c.args.kept.now in
-    let D = λ (ls : List ℕ) (ds : List (ℕ × ℕ)) (cs : List ℕ). IfOk c.tell.result
-    (IfApart (all_pairs ls ds cs) (told_by ls ds cs kept)) in
-    let equations : c.in_ok-equations.equations.items ≡ b.same ++ pairs_at places p.same = search rules in
-    let labels : c.in_ok-labels.labels.items ≡ joined_labels start c.in_ok-equations.equations.items = search rules in
-    let differences : c.in_ok-differences.differences.items ≡ b.differ ++ pairs_at places p.differ = search rules in
+    let ds : List (ℕ × ℕ) = b.differ ++ pairs_at places p.differ in
+    let now : List ℕ = joined_labels start (b.same ++ pairs_at places p.same) in
+    let D = λ (ls : List ℕ) (all : List (ℕ × ℕ)) (cs : List ℕ). IfOk c.tell.result
+    (IfApart all (said_by (labels_at ls kept) all cs)) in
+    let labels : c.in_ok-labels.labels.items ≡ now = search rules in
     let cells : c.in_ok-cells.cells.items ≡ b.cells ++ numbers_at places p.cells = search rules in
-    subst (λ z. D z (b.differ ++ pairs_at places p.differ) (b.cells ++ numbers_at places p.cells))
-    (c.deref-2.ensures.value ∙ labels ∙ ap (joined_labels start) equations)
-    (subst (λ z. D c.deref-2.result.now z (b.cells ++ numbers_at places p.cells))
-    (c.deref-3.ensures.value ∙ differences) (subst (λ z. D c.deref-2.result.now c.deref-3.result.now z)
-    (c.deref-4.ensures.value ∙ cells) c.tell.ensures))
+    let cs : List ℕ = b.cells ++ numbers_at places p.cells in
+    let stated : List (ℕ × ℕ) = label_pairs now ds ++ cell_pairs (slice_index now 0) (labels_at now cs) in
+    let e1 : c.deref.result.now ≡ now = c.deref.ensures.value ∙ labels in
+    let e2 : c.deref-2.result.now ≡ cs = c.deref-2.ensures.value ∙ cells in
+    let addresses : c.in_ok-addresses.addresses.items
+    ≡ labels_at now cs = c.in_ok-addresses.ensures ∙ (λ i. labels_at (e1 i) (e2 i)) in
+    let e3 : c.deref-3.result.now ≡ now = c.deref-3.ensures.value ∙ labels in
+    let e4 : c.deref-4.result.now ≡ labels_at now cs = c.deref-4.ensures.value ∙ addresses in
+    let d1 : c.differ.result.now ≡ b.differ = c.differ.ensures in
+    let d2 : c.differ-2.result.now ≡ p.differ = c.differ-2.ensures in
+    let all : c.in_ok-differences.differences.items
+    ≡ stated = c.in_ok-differences.ensures ∙ (λ i. label_pairs (e3 i) (d1 i ++ pairs_at places (d2 i))
+    ++ cell_pairs (slice_index (e3 i) 0) (e4 i)) in
+    subst (λ z. D z stated (labels_at now cs)) (c.deref-5.ensures.value ∙ labels)
+    (subst (λ z. D c.deref-5.result.now z (labels_at now cs)) (c.deref-6.ensures.value ∙ all)
+    (subst (λ z. D c.deref-5.result.now c.deref-6.result.now z) (c.deref-7.ensures.value ∙ addresses) c.tell.ensures))

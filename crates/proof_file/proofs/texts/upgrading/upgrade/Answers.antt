@@ -1,5 +1,4 @@
 use Rattle.std.proofs.Common.{◌≡◌, ap, subst, sym, ◌∙◌, true, None}
-use Rattle.heap_syntax.specs.declared.version.Version.TheVariants.{Two}
 use Rattle.pred_defs.specs.Book.{DefinitionBook}
 use Rattle.proof_syntax.specs.Grammar.{file}
 use Rattle.proof_file.specs.Flaws.{file_flaw}
@@ -12,6 +11,7 @@ pub invariant_of-result : goal.invariant_of-result
 invariant_of-result c =
     let f = c.args.file in
     let same = sym (ap (λ (book : DefinitionBook). book.list) c.set_most.ensures) in
+    let version = c.upgraded-version.ensures in
     record {
       some = f.some;
       few = f.few;
@@ -19,9 +19,9 @@ invariant_of-result c =
       universal = f.universal;
       at_lines = f.at_lines;
       cases = subst (λ ds. all_have_few_cases ds ≡ true) same f.cases;
-      limit = ap (λ (book : DefinitionBook). book.most) c.set_most.ensures ∙ c.most_spatial.ensures.value;
-      fits = subst (λ ds. file.fits (tree_of Two ds f.program f.nodes)) same
+      limit = ap (λ (book : DefinitionBook). book.most) c.set_most.ensures ∙ c.limits.ensures.value;
+      fits = subst (λ (x : _). x) (λ i. file.fits (tree_of (sym version i) (same i) f.program f.nodes))
           (fits_wider f.version f.defs.list f.program f.nodes f.fits);
-      flawless = subst (λ ds. file_flaw (tree_of Two ds f.program f.nodes) ≡ None) same
-          (file_wider f.version f.defs.list f.program f.nodes f.flawless);
+      flawless = (λ i. file_flaw (tree_of (version i) (sym same i) f.program f.nodes))
+          ∙ file_wider f.version f.defs.list f.program f.nodes f.flawless;
     }

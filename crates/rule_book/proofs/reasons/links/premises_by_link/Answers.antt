@@ -1,4 +1,5 @@
 use Rattle.std.proofs.Common.{◌≤◌, sym, ap, ◌∙◌, length, subst}
+use Rattle.cyc_basics.specs.declared.limits.TheConstants.{MOST_SPATIAL}
 use Rattle.heap_formula.specs.Judgements.{IsLocallySound}
 use Rattle.rule_table.specs.Answer.{one}
 use Rattle.rule_table.specs.Soundness.{HasVariables}
@@ -8,7 +9,7 @@ use Rattle.rule_book.proofs.reasons.links.premises_by_link.Goals as goal
 
 pub link_premise-requires : goal.link_premise-requires
 link_premise-requires c =
-    let few = subst (λ (a : _). length a.spatial ≤ 32) c.antecedent.ensures c.spatial-atoms.ensures.at_most in
+    let few = subst (λ (a : _). length a.spatial ≤ MOST_SPATIAL) c.antecedent.ensures c.spatial-atoms.ensures.at_most in
     link_pairs_small c.args.bud.now c.args.companion.now c.args.link.now c.variables_of-p.result few
     (sym c.link_fault.ensures.fault ∙ c.in_default.is)
 

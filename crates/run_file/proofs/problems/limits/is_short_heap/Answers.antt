@@ -5,12 +5,12 @@ use Rattle.run_file.specs.Places.{is_short_place}
 use Rattle.run_file.proofs.Fields.{heap_refused, heap_tested}
 use Rattle.run_file.proofs.problems.limits.is_short_heap.Goals as goal
 
-pub returns-then-len-gt-MOST_CELLS : goal.returns-then-len-gt-MOST_CELLS
-returns-then-len-gt-MOST_CELLS c = heap_refused c.args.heap.now (omega arith)
+pub returns-then-len-most : goal.returns-then-len-most
+returns-then-len-most c = heap_refused c.args.most c.args.heap.now (omega arith)
 
 pub returns : goal.returns
 returns c =
     let h = c.args.heap.now in
-    heap_tested h c.are_short_places.result (omega arith)
-    (c.are_short_places.ensures ∙ ap (list_all (λ (a : ℕ). is_short_place (cell_at h a) a))
+    heap_tested c.args.most h c.are_short_places.result (omega arith)
+    (c.are_short_places.ensures ∙ ap (list_all (λ (a : ℕ). is_short_place c.args.most (cell_at h a) a))
     (c.deref.ensures.value ∙ c.in_ok-addresses.ensures.value))

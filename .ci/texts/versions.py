@@ -1,0 +1,174 @@
+"""Texts of version 3 at its limits and just past them, and what versions 1 and 2 say to the same. Tokens were counted by hand; the line
+and the column of a token are counted by `parts`."""
+import re
+
+from parts import at_token
+
+ACCEPTED = b"accepted entailment nodes 1 links 0"
+# Which path without progress is named is left open.
+A_PATH = re.compile(rb"refused path stem( \d+\.\d+)* cycle( \d+\.\d+)+\n")
+NODE = "node true : emp |- true : emp by Done;\nend;\n"
+
+
+def proof(text, version=3):
+    return f"cyclist proof {version};\n{text}".encode()
+
+
+def cells(count):
+    """So many cells at nil, which are absurd; a cell has five tokens, and one more up to the next."""
+    return f"node true : {' * '.join(['nil -> (nil)'] * count)} |- true : emp by Absurd;\nend;\n"
+
+
+def pures(count):
+    """So many equations of three tokens, and one more up to the next."""
+    return f"node {', '.join(['nil = nil'] * count)} : emp |- true : emp by Done;\nend;\n"
+
+
+def cases(count):
+    """A definition of so many cases; a case has three tokens, and one more up to the next."""
+    return f"pred p(0) {{ {' | '.join(['true : emp'] * count)} }};\n"
+
+
+def unfolded(count):
+    """A use of a definition of so many cases, unfolded: a premise for each."""
+    premises = "".join(" " + str(i + 1) for i in range(count))
+    each = "node true : emp |- true : emp by Done;\n" * count
+    return cases(count) + f"node true : p() |- true : emp by Unfold 0 to{premises};\n{each}end;\n"
+
+
+def locals_up_to(number):
+    return f"pred p(1) {{ $0 = ?{number} : emp }};\n{NODE}"
+
+
+# The 64th atom of a heap is the one that traces follow: 63 atoms that stay, and one that is unfolded again and again. Where a Cut puts
+# the atom in its own place no trace passes, so that the same way round has none.
+ATOMS = " * ".join(["q()"] * 63 + ["p()"])
+TURNING = "pred p(0) { true : p() };\npred q(0) { true : emp };\n"
+ALL_PLACES = " ".join(str(i) for i in range(64))
+ROUND = f"{TURNING}node true : {ATOMS} |- true : emp by Unfold 63 to 1;\n"
+BACK = f"by Link 0 {{ }} [{ALL_PLACES}] [0];\n"
+LAST_PLACE = f"{ROUND}node true : {ATOMS} |- true : emp {BACK}end;\n"
+NO_TRACE = (
+    f"{ROUND}node true : {ATOMS} |- true : emp by Cut [63] true : p() to 2 4;\n"
+    "node true : p() |- true : p() by Frame 0 0 to 3;\n"
+    "node true : emp |- true : emp by Done;\n"
+    f"node true : {ATOMS} |- true : emp {BACK}end;\n"
+)
+
+CHECKED = [
+    (proof(NODE), 0, ACCEPTED),
+    # spatial atoms
+    (proof(cells(64)), 0, ACCEPTED),
+    at_token(proof(cells(65)), 5, "limit spatial", 4 + 3 + 6 * 64),
+    at_token(proof(cells(33), 2), 5, "limit spatial", 4 + 3 + 6 * 32),
+    at_token(proof(cells(17), 1), 5, "limit spatial", 4 + 3 + 6 * 16),
+    # pure atoms
+    (proof(pures(1024)), 0, ACCEPTED),
+    at_token(proof(pures(1025)), 5, "limit pure", 4 + 1 + 4 * 1024),
+    at_token(proof(pures(65), 2), 5, "limit pure", 4 + 1 + 4 * 64),
+    at_token(proof(pures(65), 1), 5, "limit pure", 4 + 1 + 4 * 64),
+    # cases, each of which is a premise of an Unfold
+    (proof(unfolded(64)), 0, b"accepted entailment nodes 65 links 0"),
+    at_token(proof(cases(65) + NODE), 5, "limit cases", 4 + 6 + 4 * 64),
+    at_token(proof(cases(17) + NODE, 2), 5, "limit cases", 4 + 6 + 4 * 16),
+    # locals
+    (proof(locals_up_to(63)), 0, ACCEPTED),
+    at_token(proof(locals_up_to(64)), 5, "limit locals", 4 + 6 + 4),
+    at_token(proof(locals_up_to(16), 2), 5, "limit locals", 4 + 6 + 4),
+    # what has the same limit in each version
+    at_token(proof("pred p(9) { true : emp };\n" + NODE), 5, "limit arguments", 4 + 3),
+    at_token(proof("line 1 : $0 := new 9;\nline 2 : stop;\n" + NODE), 5, "limit fields", 4 + 7),
+    # a free branch
+    (proof("line 1 : if * goto 1;\nline 2 : stop;\n" + NODE), 0, ACCEPTED),
+    # a rule that passes the limit: one atom more than 64, and one pure atom more than 1,024
+    (
+        proof(
+            "pred p(0) { true : p() * p() };\n"
+            f"node true : {' * '.join(['p()'] * 64)} |- true : emp by Unfold 0 to 0;\nend;\n"
+        ),
+        1, b"refused node 0 TooManyAtoms",
+    ),
+    (
+        proof(f"node {', '.join(['nil = nil'] * 1024)} : emp |- true : emp by Split nil nil to 0 0;\nend;\n"),
+        1, b"refused node 0 TooManyAtoms",
+    ),
+    # the last place
+    (proof(LAST_PLACE), 0, b"accepted entailment nodes 2 links 1"),
+    (proof(NO_TRACE), 1, A_PATH),
+    # what is no version
+    (proof(NODE, 4), 3, b"unreadable syntax token 2 line 1 column 15"),
+]
+
+# A file of version 3 stays one.
+UPGRADED = [(proof(NODE), 0, proof(NODE))]
+
+
+def problem(text, version=3):
+    return f"cyclist problem {version};\n{text}".encode()
+
+
+def many_locals(count):
+    return "pred p(a) { " + ", ".join(f"a = l{i}" for i in range(count)) + " : emp };\ngoal true : emp |- true : emp;\nend;\n"
+
+
+def many_cells(count):
+    return f"goal true : {' * '.join(['nil -> (nil)'] * count)} |- true : emp;\nend;\n"
+
+
+PROBLEMS = [
+    (problem(many_cells(64)), 0, proof(cells(64))),
+    at_token(problem(many_cells(65)), 5, "limit spatial", 4 + 3 + 6 * 64),
+    at_token(problem(many_locals(65)), 5, "limit locals", 4 + 6 + 4 * 64 + 2),
+    at_token(problem(many_locals(17), 2), 5, "limit locals", 4 + 6 + 4 * 16 + 2),
+    at_token(problem(cases(65).replace("(0)", "()") + many_cells(1)), 5, "limit cases", 4 + 5 + 4 * 64),
+    (problem("goal true : emp |- true : emp;\nend;\n", 4), 3, b"unreadable syntax token 2 line 1 column 17"),
+]
+
+
+def model(text, version=3):
+    return f"cyclist model {version};\n{text}".encode()
+
+
+def stored(count):
+    """So many cells from address 1 on, each with one field, 0; a cell has five tokens, and one more up to the next."""
+    return f"stack;\nheap {', '.join(f'{i + 1} -> (0)' for i in range(count))};\nask true : emp;\nend;\n"
+
+
+def asked(count):
+    """So many atoms asked of a heap without cells."""
+    return f"stack;\nheap;\nask true : {' * '.join(['nil -> (nil)'] * count)};\nend;\n"
+
+
+# The first cell is at token 4 + 3; where there is none, the first asked atom is four tokens further on.
+MODELS = [
+    (model(stored(0)), 0, b"holds"),
+    (model(stored(64)), 1, b"fails"),
+    at_token(model(stored(65)), 5, "limit cells", 4 + 3 + 6 * 64),
+    at_token(model(stored(17), 1), 5, "limit cells", 4 + 3 + 6 * 16),
+    (model(asked(64)), 1, b"fails"),
+    at_token(model(asked(65)), 5, "limit spatial", 4 + 4 + 3 + 6 * 64),
+    at_token(model(asked(33), 1), 5, "limit spatial", 4 + 4 + 3 + 6 * 32),
+    # what is no version
+    (model(stored(0), 2), 3, b"unreadable syntax token 2 line 1 column 15"),
+    (model(stored(0), 4), 3, b"unreadable syntax token 2 line 1 column 15"),
+]
+
+# What is written has the version for the problem's.
+REFUTED = [
+    (problem("goal true : emp |- a = nil : emp;\nend;\n"), 0, model("stack 1;\nheap;\nask true : emp;\nend;\n")),
+    (problem("goal true : emp |- a = nil : emp;\nend;\n", 2), 0, model("stack 1;\nheap;\nask true : emp;\nend;\n", 1)),
+]
+
+
+def rows():
+    """Yields the words, the input, the status and what is to be written; a line without its end."""
+    for text, status, line in CHECKED:
+        yield "check", text, status, line
+    for text, status, written in UPGRADED:
+        yield "upgrade", text, status, written
+    for text, status, line in PROBLEMS:
+        yield "prove --depth 1", text, status, line
+    for text, status, line in MODELS:
+        yield "model", text, status, line
+    for text, status, written in REFUTED:
+        yield "disprove --cells 1", text, status, written

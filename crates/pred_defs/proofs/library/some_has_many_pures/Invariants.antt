@@ -1,0 +1,7 @@
+use Rattle.std.proofs.Common.{◌≡◌, drop}
+use Rattle.std.specs.List.{list_any}
+use Rattle.pred_defs.specs.Faults.{has_many_pures}
+use Rattle.pred_defs.proofs.library.some_has_many_pures.Given as goal
+
+abbrev pub invariant-loop-case : goal.invariant-loop-case
+invariant-loop-case l = list_any (has_many_pures l.most) (drop l.case-index l.cases) ≡ list_any (has_many_pures l.most) l.cases
