@@ -1,5 +1,4 @@
-//! Tests of texts, models, run files, links, proof graphs, sources and sinks, and of what is said of faults; nothing
-//! else.
+//! Tests of texts, models, run files, links, proof graphs, sources and sinks; nothing else.
 #![tactic(auto)]
 
 #[cfg(test)]
@@ -8,8 +7,6 @@ mod back_links_tests;
 mod check_answers_tests;
 #[cfg(test)]
 mod cyc_io_tests;
-#[cfg(test)]
-mod explained_tests;
 #[cfg(test)]
 mod fo_file_written_tests;
 #[cfg(test)]

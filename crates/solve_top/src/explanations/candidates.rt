@@ -19,7 +19,7 @@ static FIXED: [&str; 35] = [
 static HEADING: [&str; 2] = ["cyclist", "problem"];
 
 /// The numbers of the versions.
-static VERSIONS: [&str; 2] = ["1", "2"];
+static VERSIONS: [&str; 3] = ["1", "2", "3"];
 
 /// What could stand at a place of a text.
 #[derive(Drop)]
