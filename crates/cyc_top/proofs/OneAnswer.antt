@@ -1,12 +1,12 @@
 -- A task has one answer for each input: one status, and one text but for the lasso that a check names.
-use Rattle.std.proofs.Common.{◌≡◌, ℕ, List, sym, ◌∙◌, inl, Option, Some, None}
+use Rattle.std.proofs.Common.{◌≡◌, ℕ, List, sym, ap, ◌∙◌, inl, Option, Some, None}
 use Rattle.std.specs.Prelude.{Result, Ok, Err}
 use Rattle.cyc_lex.specs.declared.fault.ReadFault.{ReadFault}
 use Rattle.formula_reader.specs.declared.problem.Problem.{Problem}
 use Rattle.formula_reader.specs.Reading as problems
 use Rattle.proof_file.specs.declared.file.ProofFile.{ProofFile}
 use Rattle.proof_file.specs.Reading.{AreSame}
-use Rattle.proof_file.specs.Upgrades.{IsUpgrade}
+use Rattle.proof_file.specs.Upgrades.{IsUpgrade, upgraded}
 use Rattle.proof_file.specs.Written.{text_of_file}
 use Rattle.cyc_words.specs.declared.tasks.Task.{Task}
 use Rattle.cyc_words.specs.declared.tasks.Task.TheVariants.{Check, Prove, Ring, Upgrade, Sat, Model, Disprove}
@@ -54,7 +54,7 @@ one_searched depth input s t xs ys first second =
 -- the upgrades of what was read are one
 one_upgrade : (f g u v : ProofFile) → AreSame f g → IsUpgrade f u → IsUpgrade g v → file_text u ≡ file_text v
 one_upgrade f g u v same first second =
-    let version : u.version ≡ v.version = first.version ∙ sym second.version in
+    let version : u.version ≡ v.version = first.version ∙ ap upgraded same.version ∙ sym second.version in
     let definitions = first.definitions ∙ same.definitions ∙ sym second.definitions in
     let program = first.program ∙ same.program ∙ sym second.program in
     let nodes = first.nodes ∙ same.nodes ∙ sym second.nodes in

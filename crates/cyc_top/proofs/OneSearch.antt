@@ -1,5 +1,6 @@
 -- The searches for one problem have one answer, and what they find is a proof.
 use Rattle.std.proofs.Common.{◌≡◌, ℕ, ◌≤◌, List, Ok, Some, inr, refl, sym, ap, subst, ◌∙◌, length}
+use Rattle.cyc_basics.specs.declared.limits.Limits.{Limits}
 use Rattle.heap_formula.specs.declared.commands.Command.{Command}
 use Rattle.heap_formula.specs.declared.proof_rules.Reason.{Reason}
 use Rattle.heap_formula.specs.Definitions.{Definition}
@@ -43,7 +44,7 @@ by_outcome TooManyDerivations = refl
 by_outcome TooManyStates = refl
 
 -- the theory of these definitions and this program
-abbrev theory_at : ℕ → List Definition → List Command → Theory
+abbrev theory_at : Limits → List Definition → List Command → Theory
 theory_at most ds lines = record { most = most; definitions = ds; lines = lines }
 
 -- problems that say the same are searched in one theory

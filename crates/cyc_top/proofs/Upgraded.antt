@@ -12,7 +12,7 @@ use Rattle.proof_file.proofs.TextReadings.{text_is_read}
 use Rattle.proof_check.specs.Verdicts.{Verdict}
 use Rattle.logics.specs.declared.verdict.Verdict.TheVariants.{Accepted, RuleRefused, PathRefused, TooManyStates}
 use Rattle.proof_check.specs.Verdicts.{IsVerdict, RootHolds, state_limit}
-use Rattle.proof_check.proofs.Upgraded.{correct_again, same_graph}
+use Rattle.proof_check.proofs.Upgraded.{correct_again, same_graph, upgrade_widens}
 use Rattle.cyc_words.specs.declared.tasks.Task.{Task}
 use Rattle.cyc_words.specs.declared.tasks.Task.TheVariants.{Check, Upgrade}
 use Rattle.cyc_runs.specs.declared.endings.Status.{Status}
@@ -37,9 +37,9 @@ root_again f g up holds root at =
 
 -- an accepted file is accepted when it is upgraded
 accepted_again : (f g : ProofFile) → IsUpgrade f g → IsVerdict f Accepted → IsVerdict g Accepted
-accepted_again f g up is = (
-  correct_again f g up is.0,
-  subst (λ graph. HasAtMost graph state_limit) (sym (same_graph f g up is.0)) is.1,
+accepted_again f g up is = let wider = upgrade_widens f g up in (
+  correct_again f g wider is.0,
+  subst (λ graph. HasAtMost graph state_limit) (sym (same_graph f g wider is.0)) is.1,
   root_again f g up is.2,
 )
 
