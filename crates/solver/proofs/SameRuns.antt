@@ -64,6 +64,7 @@ same_right r q same right = record {
 
 pub turned_run : (r q : RunFile) → AreSame r q → AreSame q r
 turned_run r q same = record {
+  version = sym same.version;
   most = sym same.most;
   definitions = sym same.definitions;
   program = sym same.program;
