@@ -3,7 +3,7 @@
 # comments aside, is what `prove` writes of that problem, or there is none and no proof is found; `solve` answers each problem
 # as solved.txt and field/answers.txt say, and the proofs in solve/ are what it writes; the model beside a problem is what `disprove` writes of that
 # problem, and `model` says that it holds; the first-order proof beside a first-order problem is what `fo` writes of that problem;
-# each script is answered as slcomp/answers.txt says.
+# each script is answered as slcomp/answers.txt says, and each question for a frame as frames/answers.txt says.
 set -u
 program=$1
 solver=$2
@@ -73,6 +73,19 @@ while IFS='|' read -r file wanted; do
 done < "$here/slcomp/answers.txt"
 for script in "$here"/slcomp/*.smt2; do
   grep -q "^$(basename "$script")|" "$here/slcomp/answers.txt" || fail "examples/slcomp/answers.txt does not tell of $(basename "$script")"
+done
+
+# What `solve` finds of a question for a frame: the succedent of the problem that it writes.
+while IFS='|' read -r file wanted; do
+  case $file in '#'*|'') continue ;; esac
+  got=$("$solver" < "$here/frames/$file")
+  goal=$(sed -n '/^goal /{p;q}' <<< "$got")
+  goal=${goal#*|- }
+  [ "${got%%$'\n'*}" = holds ] && [ "$goal" = "$wanted" ] || fail "examples/frames/$file: solve answers '${got%%$'\n'*}' with '$goal', and not '$wanted'"
+  sed -n '/^cyclist proof/,$p' <<< "$got" | "$program" check > /dev/null || fail "examples/frames/$file: what solve writes is no proof"
+done < "$here/frames/answers.txt"
+for problem in "$here"/frames/*.problem; do
+  grep -q "^$(basename "$problem")|" "$here/frames/answers.txt" || fail "examples/frames/answers.txt does not tell of $(basename "$problem")"
 done
 
 for model in "$here"/*.model "$here"/refuted/*.model; do

@@ -1,4 +1,3 @@
-mod Commands
 mod Offsets
 pub mod ReadingBack
 mod Loops

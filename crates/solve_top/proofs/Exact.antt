@@ -28,9 +28,11 @@ use Rattle.solver.specs.Runs.{IsRight}
 use Rattle.solver.specs.Solutions.{Holds, IsSolution}
 use Rattle.solver.proofs.SameRuns.{same_right, turned_run}
 use Rattle.script_answers.specs.Begins.{is_script_text}
+use Rattle.frame_questions.specs.Questions.{is_frame_text, plain_text}
 use Rattle.solve_top.specs.Inputs.{is_run_text}
-use Rattle.solve_top.specs.Answers.{EndAlike, IsAnswerTo, IsAnswerWith, IsInputAnswer, IsProblemAnswer, IsRerun}
-use Rattle.solve_top.specs.Answers.{IsRunAnswer, IsSaid, IsSolved, has_answered}
+use Rattle.solve_top.specs.Answers.{EndAlike, IsAnswerTo, IsAnswerToAsked, IsAnswerWith, IsFrameSaid, IsInputAnswer}
+use Rattle.solve_top.specs.Answers.{IsProblemAnswer, IsQuestionAnswer, IsRerun, IsRunAnswer, IsSaid, IsSolved}
+use Rattle.solve_top.specs.Answers.{has_answered}
 
 -- ---- yes, no, or that nothing is known
 
@@ -99,6 +101,31 @@ runs_alike (Err a) (Err b) s t xs ys same first second = inl (first.ends ∙ ap 
 runs_alike (Ok r) (Err b) s t xs ys same first second = absurd same
 runs_alike (Err a) (Ok q) s t xs ys same first second = absurd same
 
+-- ---- questions for frames
+
+-- a run with this status says that there is an answer, or nothing
+abbrev SaysYesOrNothing : Status → Type 0
+SaysYesOrNothing s = (s ≡ status.Success) ⊎ (s ≡ status.NotFound)
+
+frame_says : (p : Problem) (s : Status) (text : List ℕ) → IsFrameSaid p s text → SaysYesOrNothing s
+frame_says p s text (inl told) = inl told.0
+frame_says p s text (inr (inl impossible)) = inl impossible.0
+frame_says p s text (inr (inr none)) = inr none.0
+
+frames_end_alike : (s t : Status) → SaysYesOrNothing s → SaysYesOrNothing t → EndAlike s t
+frames_end_alike s t (inl a) (inl b) = inl (a ∙ sym b)
+frames_end_alike s t (inl a) (inr b) = inr (ap has_answered a, ap has_answered b, inr b)
+frames_end_alike s t (inr a) (inl b) = inr (ap has_answered a, ap has_answered b, inl a)
+frames_end_alike s t (inr a) (inr b) = inl (a ∙ sym b)
+
+frames_alike : (r q : Result Problem ReadFault) (s t : Status) (xs ys : List ℕ) → AreAlike problems.AreSame r q
+    → IsQuestionAnswer r s xs → IsQuestionAnswer q t ys → EndAlike s t
+frames_alike (Ok p) (Ok q) s t xs ys same first second =
+    frames_end_alike s t (frame_says p s xs first) (frame_says q t ys second)
+frames_alike (Err a) (Err b) s t xs ys same first second = inl (first.ends ∙ ap fault_status same ∙ sym second.ends)
+frames_alike (Ok p) (Err b) s t xs ys same first second = absurd same
+frames_alike (Err a) (Ok q) s t xs ys same first second = absurd same
+
 -- ---- inputs
 
 kinds_alike : (b : Bool) (input : List ℕ) (s t : Status) (xs ys : List ℕ) → IsAnswerTo b input s xs
@@ -111,10 +138,18 @@ kinds_alike false input s t xs ys first second =
     problems_alike first.0 second.0 s t xs ys (one_problem_reading input first.0 second.0 first.1 second.1)
     first.2 second.2
 
+asked_alike : (b : Bool) (input : List ℕ) (s t : Status) (xs ys : List ℕ) → IsAnswerToAsked b input s xs
+    → IsAnswerToAsked b input t ys → EndAlike s t
+asked_alike true input s t xs ys first second =
+    frames_alike first.0 second.0 s t xs ys
+    (one_problem_reading (plain_text input) first.0 second.0 first.1 second.1) first.2 second.2
+asked_alike false input s t xs ys first second = kinds_alike (is_run_text input) input s t xs ys first second
+
 no_scripts_alike : (b : Bool) (input : List ℕ) (s t : Status) (xs ys : List ℕ) → b ≡ false → IsInputAnswer b input s xs
     → IsInputAnswer b input t ys → EndAlike s t
 no_scripts_alike true input s t xs ys plain first second = absurd (let h : true ≡ false = plain in cc)
-no_scripts_alike false input s t xs ys plain first second = kinds_alike (is_run_text input) input s t xs ys first second
+no_scripts_alike false input s t xs ys plain first second =
+    asked_alike (is_frame_text input) input s t xs ys first second
 
 answers_alike : (input : List ℕ) (s t : Status) (xs ys : List ℕ) → is_script_text input ≡ false
     → IsAnswerOf IsSolved input s xs → IsAnswerOf IsSolved input t ys → EndAlike s t

@@ -6,3 +6,5 @@ pub mod Wrote
 pub mod Exact
 pub mod Told
 pub mod Said
+pub mod FrameLaws
+mod FramePrefixes

@@ -1,5 +1,5 @@
 -- What a run has written that ends with success, or with a refusal.
-use Rattle.std.proofs.Common.{◌≡◌, ◌⊎◌, ℕ, List, ◌++◌, refl, inl, inr, Bool, true, false, Option}
+use Rattle.std.proofs.Common.{◌≡◌, ◌⊎◌, ℕ, List, [], ◌++◌, refl, inl, inr, Bool, true, false, Option}
 use Rattle.std.specs.Prelude.{Result, Ok, Err}
 use Rattle.cyc_lex.specs.declared.fault.ReadFault.{ReadFault}
 use Rattle.cyc_runs.specs.declared.endings.Status.TheVariants as status
@@ -25,10 +25,14 @@ use Rattle.solver.specs.declared.solution.Solution.TheVariants.{Proved, Impossib
 use Rattle.solver.specs.Solutions.{IsCheckedProof, IsCounterModel, IsFaultyRun, IsRefutation, IsSolution}
 use Rattle.script_answers.specs.Begins.{is_script_text}
 use Rattle.solve_top.specs.Inputs.{is_run_text}
-use Rattle.solve_top.specs.Answers.{IsAnswerTo, IsCertified, IsInputAnswer, IsProblemAnswer, IsRerun, IsRunAnswer}
-use Rattle.solve_top.specs.Answers.{IsSaid, IsSolved, fails_line, holds_line, proof_text, run_text, text_of_refutation}
+use Rattle.frame_questions.specs.Questions.{is_frame_text, plain_text}
+use Rattle.solve_top.specs.Answers.{IsAnswerTo, IsAnswerToAsked, IsCertified, IsFrameSaid, IsFrameTold}
+use Rattle.solve_top.specs.Answers.{IsInputAnswer, IsProblemAnswer, IsQuestionAnswer, IsRerun, IsRunAnswer}
+use Rattle.solve_top.specs.Answers.{IsSaid, IsSolved, fails_line, holds_line, impossible_line, proof_text, run_text}
+use Rattle.solve_top.specs.Answers.{text_of_refutation}
+use Rattle.command_answers.specs.Answers.{IsPossible}
 use Rattle.solve_top.specs.Written.{GoalFails, GoalHolds, IsModelText, IsProofText, IsRunText, RunFails, RunHolds}
-use Rattle.solve_top.specs.Written.{ScriptIsSolved, WroteFails, WroteHolds}
+use Rattle.solve_top.specs.Written.{FrameHolds, IsFrameText, ScriptIsSolved, WroteFails, WroteHolds}
 use Rattle.solve_top.proofs.ScriptLaws.{script_is_solved}
 
 -- ---- certificates are read
@@ -99,16 +103,63 @@ either_holds : (b : Bool) (input text : List ℕ) → IsAnswerTo b input status.
 either_holds true input text answer = inr (run_holds input text answer.0 answer.1 answer.2)
 either_holds false input text answer = inl (problem_holds input text answer.0 answer.1 answer.2)
 
-any_holds : (b : Bool) (input text : List ℕ) → is_script_text input ≡ b → IsInputAnswer b input status.Success text
-    → GoalHolds input text ⊎ (RunHolds input ⊎ ScriptIsSolved input text)
-any_holds true input text is answer = inr (inr (script_is_solved input text status.Success is refl (inl refl) answer))
-any_holds false input text is answer =
-    elim (either_holds (is_run_text input) input text answer) as
-    (λ _. GoalHolds input text ⊎ (RunHolds input ⊎ ScriptIsSolved input text))
+-- ---- frames
+
+framed_text : (p : Problem) (text : List ℕ) → IsFrameTold p text → IsFrameText p text
+framed_text p text told = record {
+  framed = told.found.problem;
+  is_frame = told.is_found.is_frame;
+  certificate = proof_text told.found.proof.file;
+  over = record {
+    notes = told.said.notes;
+    are_notes = told.said.are_notes;
+    spelled = told.found.text.items;
+    is_problem = told.is_found.is_problem;
+    is = told.said.is;
+  };
+  file = told.found.proof.file;
+  proof = told.is_found.proof;
+  is_file = proof_readings.text_is_read told.found.proof.file;
+  possible = told.possible;
+}
+
+frame_holds : (input text : List ℕ) → is_frame_text input ≡ true → (read : Result Problem ReadFault)
+    → problems.IsRead (plain_text input) read → IsQuestionAnswer read status.Success text → FrameHolds input text
+frame_holds input text asks (Ok p) is answer =
+    record { asks = asks; problem = p; is_problem = is; shown = shown answer }
+  where
+    shown : IsFrameSaid p status.Success text → IsFrameText p text ⊎ ((¬ IsPossible p)
+        × IsCertified impossible_line [] text)
+    shown (inl told) = inl (framed_text p text told.1)
+    shown (inr (inl impossible)) = inr (impossible.1, impossible.2)
+    shown (inr (inr none)) = absurd (let h : status.Success ≡ status.NotFound = none.0 in cc)
+frame_holds input text asks (Err fault) is answer = absurd (fault_fails fault answer.ends)
+
+frame_fails : (text : List ℕ) (read : Result Problem ReadFault) → IsQuestionAnswer read status.Refused text → ⊥
+frame_fails text (Ok p) (inl told) = let h : status.Refused ≡ status.Success = told.0 in cc
+frame_fails text (Ok p) (inr (inl impossible)) = let h : status.Refused ≡ status.Success = impossible.0 in cc
+frame_fails text (Ok p) (inr (inr none)) = let h : status.Refused ≡ status.NotFound = none.0 in cc
+frame_fails text (Err fault) answer = fault_is_no_refusal fault answer.ends
+
+-- what a success shows of an input
+abbrev Holding : List ℕ → List ℕ → Type 0
+Holding input text = GoalHolds input text ⊎ (RunHolds input ⊎ (ScriptIsSolved input text ⊎ FrameHolds input text))
+
+asked_holds : (b : Bool) (input text : List ℕ) → is_frame_text input ≡ b
+    → IsAnswerToAsked b input status.Success text → Holding input text
+asked_holds true input text is answer =
+    inr (inr (inr (frame_holds input text is answer.0 answer.1 answer.2)))
+asked_holds false input text is answer =
+    elim (either_holds (is_run_text input) input text answer) as (λ _. Holding input text)
     [ inl goal ↦ inl goal | inr run ↦ inr (inl run) ]
 
-input_holds : (input text : List ℕ) → IsAnswerOf IsSolved input status.Success text
-    → GoalHolds input text ⊎ (RunHolds input ⊎ ScriptIsSolved input text)
+any_holds : (b : Bool) (input text : List ℕ) → is_script_text input ≡ b → IsInputAnswer b input status.Success text
+    → Holding input text
+any_holds true input text is answer =
+    inr (inr (inl (script_is_solved input text status.Success is refl (inl refl) answer)))
+any_holds false input text is answer = asked_holds (is_frame_text input) input text refl answer
+
+input_holds : (input text : List ℕ) → IsAnswerOf IsSolved input status.Success text → Holding input text
 input_holds input text (inl long) = absurd (let h : status.Success ≡ status.Limit = long.1 in cc)
 input_holds input text (inr solved) = any_holds (is_script_text input) input text refl solved.1
 
@@ -157,13 +208,18 @@ either_fails : (b : Bool) (input text : List ℕ) → IsAnswerTo b input status.
 either_fails true input text answer = inr (run_fails input text answer.0 answer.1 answer.2)
 either_fails false input text answer = inl (problem_fails input text answer.0 answer.1 answer.2)
 
-any_fails : (b : Bool) (input text : List ℕ) → is_script_text input ≡ b → IsInputAnswer b input status.Refused text
+asked_fails : (b : Bool) (input text : List ℕ) → IsAnswerToAsked b input status.Refused text
     → GoalFails input text ⊎ (RunFails input ⊎ ScriptIsSolved input text)
-any_fails true input text is answer = inr (inr (script_is_solved input text status.Refused is refl (inr refl) answer))
-any_fails false input text is answer =
+asked_fails true input text answer = absurd (frame_fails text answer.0 answer.2)
+asked_fails false input text answer =
     elim (either_fails (is_run_text input) input text answer) as
     (λ _. GoalFails input text ⊎ (RunFails input ⊎ ScriptIsSolved input text))
     [ inl goal ↦ inl goal | inr run ↦ inr (inl run) ]
+
+any_fails : (b : Bool) (input text : List ℕ) → is_script_text input ≡ b → IsInputAnswer b input status.Refused text
+    → GoalFails input text ⊎ (RunFails input ⊎ ScriptIsSolved input text)
+any_fails true input text is answer = inr (inr (script_is_solved input text status.Refused is refl (inr refl) answer))
+any_fails false input text is answer = asked_fails (is_frame_text input) input text answer
 
 input_fails : (input text : List ℕ) → IsAnswerOf IsSolved input status.Refused text
     → GoalFails input text ⊎ (RunFails input ⊎ ScriptIsSolved input text)

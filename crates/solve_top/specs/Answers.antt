@@ -1,4 +1,4 @@
--- The answer to a problem, to a run, to a script and to words.
+-- The answer to a problem, to a run, to a script, to a question for a frame and to words.
 use Rattle.std.specs.Prelude.{◌≡◌, ◌≢◌, ◌≤◌, ◌⊎◌, ℕ, Bool, true, false, List, [], ◌++◌, length, codes, Option, Some}
 use Rattle.std.specs.Prelude.{None, Result, Ok, Err}
 use Rattle.cyc_lex.specs.declared.fault.ReadFault.{ReadFault}
@@ -29,6 +29,9 @@ use Rattle.solver.specs.declared.solution.Solution.TheVariants.{Proved, Impossib
 use Rattle.solver.specs.Runs.{IsRight}
 use Rattle.solver.specs.Solutions.{IsSolution}
 use Rattle.script_answers.specs.Begins.{is_script_text}
+use Rattle.solve_top.specs.declared.frames.FoundFrame.{FoundFrame}
+use Rattle.solve_top.specs.Frames.{IsFound}
+use Rattle.frame_questions.specs.Questions.{is_frame_text, plain_text}
 use Rattle.solve_top.specs.Inputs.{is_run_text}
 use Rattle.solve_top.specs.Words.{effort_of}
 
@@ -161,6 +164,31 @@ pub record IsSolvedScript (ending : Status) (text : List ℕ) : Type 0 where
 abbrev pub IsScriptAnswer : Status → List ℕ → Type 0
 IsScriptAnswer ending text = (is_refusal ending ≡ true) ⊎ IsSolvedScript ending text
 
+-- ---- frames
+
+-- a problem is told that says what is left, and a proof of its goal; and something satisfies the antecedent
+pub record IsFrameTold (problem : Problem) (text : List ℕ) : Type 0 where
+  pub found : FoundFrame
+  pub is_found : IsFound problem found
+  pub possible : IsPossible problem
+  pub said : IsAsked holds_line found.text.items (proof_text found.proof.file) text
+
+-- how what is found of a question is told: a frame, or that nothing satisfies the antecedent, or that nothing is known
+abbrev pub IsFrameSaid : Problem → Status → List ℕ → Type 0
+IsFrameSaid problem ending text =
+    ((ending ≡ status.Success) × IsFrameTold problem text)
+    ⊎ (((ending ≡ status.Success) × (¬ IsPossible problem) × IsCertified impossible_line [] text)
+    ⊎ ((ending ≡ status.NotFound) × IsCertified unknown_line [] text))
+
+abbrev pub IsQuestionAnswer : Result Problem ReadFault → Status → List ℕ → Type 0
+IsQuestionAnswer (Ok problem) ending text = IsFrameSaid problem ending text
+IsQuestionAnswer (Err fault) ending text = IsExplained fault ending text
+
+-- the question speaks of the problem that the plain text spells, or the plain text has this fault
+abbrev pub IsFrameAnswer : List ℕ → Status → List ℕ → Type 0
+IsFrameAnswer input ending text = (read : Result Problem ReadFault) × problems.IsRead (plain_text input) read
+    × IsQuestionAnswer read ending text
+
 -- ---- inputs and words
 
 -- an input that begins as a run file is read as one, any other as a problem
@@ -170,10 +198,15 @@ IsAnswerTo true input ending text =
 IsAnswerTo false input ending text =
     (read : Result Problem ReadFault) × problems.IsRead input read × IsProblemAnswer read ending text
 
+-- an input that asks for a frame is read as such a question
+abbrev pub IsAnswerToAsked : Bool → List ℕ → Status → List ℕ → Type 0
+IsAnswerToAsked true input ending text = IsFrameAnswer input ending text
+IsAnswerToAsked false input ending text = IsAnswerTo (is_run_text input) input ending text
+
 -- an input that begins as a script is read as one
 abbrev pub IsInputAnswer : Bool → List ℕ → Status → List ℕ → Type 0
 IsInputAnswer true input ending text = IsScriptAnswer ending text
-IsInputAnswer false input ending text = IsAnswerTo (is_run_text input) input ending text
+IsInputAnswer false input ending text = IsAnswerToAsked (is_frame_text input) input ending text
 
 abbrev pub IsSolved : Answering
 IsSolved input ending text = (length input ≤ input_limit) × IsInputAnswer (is_script_text input) input ending text

@@ -11,3 +11,9 @@ abbrev pub IsKnown : List ℕ → Possibility → Type 0
 IsKnown text Possible = (problem : Problem) × problems.IsRead text (Ok problem) × IsPossible problem
 IsKnown text Impossible = (problem : Problem) × problems.IsRead text (Ok problem) × (¬ IsPossible problem)
 IsKnown text Unknown = Unit {0}
+
+-- the same of a problem
+abbrev pub IsKnownOf : Problem → Possibility → Type 0
+IsKnownOf problem Possible = IsPossible problem
+IsKnownOf problem Impossible = ¬ IsPossible problem
+IsKnownOf problem Unknown = Unit {0}

@@ -13,6 +13,8 @@ use Rattle.run_file.specs.Reading as runs
 use Rattle.solver.specs.Runs.{IsRight}
 use Rattle.solver.specs.Solutions.{Holds, IsCheckedProof, IsCounterModel, IsFaultyRun, IsImpossible}
 use Rattle.command_answers.specs.Answers.{IsPossible}
+use Rattle.frame_questions.specs.Questions.{is_frame_text, plain_text}
+use Rattle.solve_top.specs.Frames.{IsFrameOf}
 use Rattle.solve_top.specs.Notes.{AreNotes}
 use Rattle.solve_top.specs.Answers.{IsCertified, fails_line, holds_line, impossible_line, sat_line, unsat_line}
 use Rattle.script_answers.specs.Begins.{is_script_text}
@@ -114,15 +116,36 @@ pub record ScriptIsSolved (input text : List ℕ) : Type 0 where
   pub script : is_script_text input ≡ true
   pub shown : IsUnsatText text ⊎ IsSatText text
 
+-- after `holds` the text of a problem stands that says what is left of the problem's antecedent, and a proof of its
+-- goal that a check accepts; and something satisfies the antecedent
+pub record IsFrameText (problem : Problem) (text : List ℕ) : Type 0 where
+  pub framed : Problem
+  pub is_frame : IsFrameOf problem framed
+  pub certificate : List ℕ
+  pub over : IsOverProblem holds_line text framed certificate
+  pub file : ProofFile
+  pub proof : IsCheckedProof framed file
+  pub is_file : files.IsRead certificate (Ok file)
+  pub possible : IsPossible problem
+
+-- the input asks for a frame, and the text shows one; or nothing satisfies the antecedent, and that is said
+pub record FrameHolds (input text : List ℕ) : Type 0 where
+  pub asks : is_frame_text input ≡ true
+  pub problem : Problem
+  pub is_problem : problems.IsRead (plain_text input) (Ok problem)
+  pub shown : IsFrameText problem text ⊎ ((¬ IsPossible problem) × IsCertified impossible_line [] text)
+
 -- some input, which is the one that was told, and a text that was written stand to each other so
 abbrev pub WroteSo : (List ℕ → List ℕ → Type 0) → Option (List ℕ) → Option (List ℕ) → Option (List ℕ) → Type 0
 WroteSo Stand told old new =
     (input : List ℕ) × (text : List ℕ) × IsTold told input × Appends old new text × Stand input text
 
 -- the goal of the problem holds, and what was written shows it; or the run is as its file tells; or a script became a
--- problem, and what was written shows that this holds, or that its antecedent can be satisfied
+-- problem, and what was written shows that this holds, or that its antecedent can be satisfied; or a frame was asked
+-- for, and what was written shows one, or nothing satisfies the antecedent
 abbrev pub WroteHolds : Option (List ℕ) → Option (List ℕ) → Option (List ℕ) → Type 0
-WroteHolds = WroteSo (λ input text. GoalHolds input text ⊎ (RunHolds input ⊎ ScriptIsSolved input text))
+WroteHolds = WroteSo (λ input text. GoalHolds input text
+    ⊎ (RunHolds input ⊎ (ScriptIsSolved input text ⊎ FrameHolds input text)))
 
 -- the goal of the problem does not hold, and what was written shows it; or the run is not as its file tells; or the
 -- same of a script

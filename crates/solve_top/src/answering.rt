@@ -7,10 +7,12 @@ ghost use Rattle.solve_top.specs.Answers.{IsAnswerTo, IsProblemAnswer};
 use crate::answers::{answer_to_run, answer_to_solution, answer_to_text};
 use crate::inputs::is_run_text;
 use crate::notes::notes_on;
+use crate::questions::answer_to_frame_text;
 use crate::scripts::answer_to_script;
 use cyc_basics::memory::OutOfMemory;
 use cyc_runs::{Answer, Tool};
 use formula_reader::{Problem, read_problem};
+use frame_questions::is_frame_text;
 use run_file::read_run;
 use script_answers::is_script;
 use solver::solve;
@@ -54,7 +56,7 @@ fn answer_to_run_text(alloc: Global, input: &[u8]) -> Result<Answer, OutOfMemory
     }
 }
 
-/// The answer to a problem or to a script, with an effort from 1 to 9, or to a run.
+/// The answer to a problem, to a script or to a question for a frame, with an effort from 1 to 9, or to a run.
 #[derive(Clone, Copy)]
 pub struct Solver {
     pub effort: u32,
@@ -68,6 +70,8 @@ impl Tool for Solver {
     fn answer(&self, alloc: Global, input: &[u8]) -> Result<Answer, OutOfMemory> {
         if is_script(input) {
             answer_to_script(alloc, input, self.effort)
+        } else if is_frame_text(alloc, input)? {
+            answer_to_frame_text(alloc, input, self.effort)
         } else if is_run_text(alloc, input)? {
             answer_to_run_text(alloc, input)
         } else {

@@ -16,7 +16,7 @@ use solver::{Refutation, Solution, is_right};
 use std::alloc::Global;
 
 /// The first line, the notes, and the certificate.
-fn certified(
+pub fn certified(
     alloc: Global,
     first: &str,
     notes: &Notes,

@@ -1,6 +1,7 @@
 //! The top call of `solve`: words and a source of bytes in, one word, a certificate and a status out. Does a problem's
 //! goal hold? The answer is a proof, a counter-model, or a run that shows that the program does not halt; or that
-//! nothing is known. A script of the field's competition becomes a problem first.
+//! nothing is known. A script of the field's competition becomes a problem first. A question for a frame is answered by
+//! a problem that says what is left, and its proof.
 #![tactic(auto)]
 
 ghost use Rattle.std.specs.Prelude.{◌≡◌, ◌+◌, ◌≤◌, ◌⊎◌, ℕ, List, Some, None, IsSome, map, string_bytes, true, false};
@@ -16,10 +17,12 @@ ghost use Rattle.solve_top.specs.Written.{WroteHolds, WroteFails};
 mod answering;
 mod answers;
 pub mod explanations;
+mod frames;
 mod inputs;
 mod notes;
 mod possibilities;
 mod program;
+mod questions;
 mod scripts;
 mod words;
 
@@ -49,7 +52,8 @@ pub fn run<S: Source, K: Sink>(alloc: Global, words: &[String], src: &mut S, out
         → ¬ Rose (S.faults src.old) (S.faults src.new) → ¬ Rose (K.faults out.old) (K.faults out.new)
         → EndAlike result status ⊎ (result ≡ Status.OutOfMemory) }
     // The goal of the problem holds, and what was written shows it; or the run is as its file tells; or a script became
-    // a problem, and what was written shows what is said of that.
+    // a problem, and what was written shows what is said of that; or a frame was asked for, and what was written shows
+    // one, or nothing satisfies the antecedent.
     ensures headline { result ≡ Status.Success
         → WroteHolds (S.left src.old) (K.written out.old) (K.written out.new) }
     // The goal of the problem does not hold, and what was written shows it; or the run is not as its file tells; or the

@@ -15,7 +15,7 @@ use problem_syntax::read_problem_tree;
 use proof_file::texts::write_file;
 use proof_file::{FileNode, FileNodes};
 use solver::limits::are_nodes_within;
-use solver::{Budget, MOST_EFFORT, ProofSearch, Refutation, Solution};
+use solver::{Budget, FoundProof, MOST_EFFORT, ProofSearch, Refutation, Solution};
 use std::alloc::Global;
 
 /// How many names stand on one line.
@@ -197,6 +197,17 @@ fn add_stuck(
     Ok(())
 }
 
+/// What is said of a proof.
+fn add_proof(
+    alloc: Global,
+    notes: &mut Notes,
+    names: &[ProblemName<'_>],
+    found: &FoundProof,
+) -> Result<(), OutOfMemory> {
+    add_numbers(alloc, notes, names)?;
+    notes.line(&[Part::Text(search_words(found.search))])
+}
+
 /// What is said of what is found.
 fn add_finding(
     alloc: Global,
@@ -207,10 +218,7 @@ fn add_finding(
     effort: u32,
 ) -> Result<(), OutOfMemory> {
     match solution {
-        Solution::Proved(found) => {
-            add_numbers(alloc, notes, names)?;
-            notes.line(&[Part::Text(search_words(found.search))])
-        }
+        Solution::Proved(found) => add_proof(alloc, notes, names, found),
         Solution::Impossible => notes.line(&[Part::Text("no proof was found")]),
         Solution::Refuted(Refutation::CounterModel(model)) => {
             add_values(alloc, notes, names, &model.stack)?;
@@ -227,6 +235,16 @@ fn add_finding(
             add_tried(notes, problem, effort)
         }
     }
+}
+
+/// Notes on the proof of the goal of a problem with this text.
+pub fn notes_on_proof(alloc: Global, text: &[u8], found: &FoundProof) -> Result<Notes, OutOfMemory>
+    requires { length text.now ≤ input_limit }
+{
+    let names = names_in(alloc, text)?;
+    let mut notes = Notes::new(alloc);
+    add_proof(alloc, &mut notes, &names, found)?;
+    Ok(notes)
 }
 
 /// Notes that stand between the first line and the problem that a script became.

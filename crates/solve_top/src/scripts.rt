@@ -25,7 +25,7 @@ use solver::{Solution, solve};
 use std::alloc::Global;
 
 /// The first line, notes, the text of the problem, and the certificate.
-fn told(
+pub fn told(
     alloc: Global,
     first: &str,
     notes: &Notes,

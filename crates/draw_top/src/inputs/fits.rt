@@ -2,8 +2,9 @@
 ghost use Rattle.std.specs.Prelude.{◌≡◌, ◌↔◌, IsTrue};
 ghost use Rattle.draw_top.specs.Fits.{IsMisfit, HasGoal};
 
+use definition_equality::{are_same_commands, are_same_definitions};
 use formula_reader::Problem;
-use heap_formula::{Cases, Command, Def, DefName, Judgement, is_same_judgement};
+use heap_formula::{Judgement, is_same_judgement};
 use proof_file::{FileNode, ProofFile};
 
 /// What of a problem is not that of a proof: its definitions, or else its program, or else its goal.
@@ -12,58 +13,6 @@ pub enum Misfit {
     Definitions,
     Program,
     Goal,
-}
-
-fn is_same_name(a: &DefName, b: &DefName) -> bool
-    ensures { IsTrue result ↔ (a.now ≡ b.now) }
-{
-    a.as_text() == b.as_text()
-}
-
-fn are_same_cases(a: &Cases, b: &Cases) -> bool
-    ensures { IsTrue result ↔ (a.now ≡ b.now) }
-{
-    a.heaps() == b.heaps()
-}
-
-fn is_same_definition(a: &Def, b: &Def) -> bool
-    ensures { IsTrue result ↔ (a.now ≡ b.now) }
-{
-    a.arity == b.arity && is_same_name(&a.name, &b.name) && are_same_cases(&a.cases, &b.cases)
-}
-
-fn are_same_definitions(a: &[Def], b: &[Def]) -> bool
-    ensures { IsTrue result ↔ (a.now ≡ b.now) }
-{
-    if a.len() != b.len() {
-        return false;
-    }
-    for (place, definition) in a.iter().enumerate() {
-        if !is_same_definition(definition, &b[place]) {
-            return false;
-        }
-    }
-    true
-}
-
-fn is_same_command(a: &Command, b: &Command) -> bool
-    ensures { IsTrue result ↔ (a.now ≡ b.now) }
-{
-    *a == *b
-}
-
-fn are_same_commands(a: &[Command], b: &[Command]) -> bool
-    ensures { IsTrue result ↔ (a.now ≡ b.now) }
-{
-    if a.len() != b.len() {
-        return false;
-    }
-    for (place, command) in a.iter().enumerate() {
-        if !is_same_command(command, &b[place]) {
-            return false;
-        }
-    }
-    true
 }
 
 /// Whether node 0 has the goal.

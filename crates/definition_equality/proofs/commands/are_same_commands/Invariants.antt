@@ -1,5 +1,5 @@
 use Rattle.std.proofs.Common.{◌≡◌, take}
-use Rattle.draw_top.proofs.inputs.fits.are_same_commands.Given as goal
+use Rattle.definition_equality.proofs.commands.are_same_commands.Given as goal
 
 -- Those so far are the same.
 abbrev pub invariant-loop-place : goal.invariant-loop-place

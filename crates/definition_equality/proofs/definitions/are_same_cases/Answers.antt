@@ -1,5 +1,5 @@
 use Rattle.heap_formula.proofs.Equal.{disjuncts_eq-Decides}
-use Rattle.draw_top.proofs.inputs.fits.are_same_cases.Goals as goal
+use Rattle.definition_equality.proofs.definitions.are_same_cases.Goals as goal
 
 pub returns : goal.returns
 returns c =

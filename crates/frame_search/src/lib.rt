@@ -1,0 +1,14 @@
+//! A search for frames: heaps that may be left of an antecedent when what is asked for is taken out of it (Berdine,
+//! Calcagno and O'Hearn 2005). Nothing is promised of what is found; the caller asks for a proof of it.
+#![tactic(auto)]
+
+mod guesses;
+mod leaves;
+mod matches;
+mod matching;
+mod naming;
+mod searching;
+mod wishes;
+
+pub use cyc_basics::memory::OutOfMemory;
+pub use searching::{FrameQuestion, Frames, frames};
