@@ -84,7 +84,7 @@ case_flawless : (limit : Limits) (ds : List Definition) (arity : ℕ) (c : Symbo
     → InHeap (IsFlawless (term_flaw (InCase arity limit.locals))) c
 case_flawless limit ds arity c w =
     in_heap_both (IsBelow arity) (λ t. exist_bound t ≤ limit.locals) (IsFlawless (term_flaw
-        (InCase arity limit.locals)))
+    (InCase arity limit.locals)))
     (term_flawless arity limit.locals) c (heap_below arity c w.parameters) (heap_bounded limit.locals c w.locals)
 
 -- ---- no definition before has the name

@@ -286,7 +286,7 @@ lines_none : (version : Version) (most : Limits) (cs : List Command) → Each (I
     → lines_excess version most cs ≡ None
 lines_none version most cs w =
     each_of_none (line_at version most) 0 cs (λ i c at. none_where (is_command_of version most c) (OfCommand
-        (0 + i + 1))
+    (0 + i + 1))
     (command_passes version most c (each_at (IsCommandOf version most) cs i c at w)))
 
 -- ---- judgements

@@ -261,7 +261,7 @@ module _ (limit : Limits) (count : ℕ) (most : count ≤ 4096) where
   line_good : (version : Version) (n : ℕ) (c : Command) → n < count → IsLineAt count (n + 1) c
       → IsCommandOf version limit c → (k : ℕ)
       → line_flaw variable_flaw variable_span limit count n k
-          (record { number = n + 1; command = command_tree c }) ≡ None
+      (record { number = n + 1; command = command_tree c }) ≡ None
   line_good version n c h l known k =
       let own : not (nat_eq (n + 1) (suc n)) ≡ false = ap not (eq-eqb (n + 1) (suc n) (omega arith)) in
       let numbered = no_ill (not (nat_eq (n + 1) (suc n))) Numbering (k + 1) own in

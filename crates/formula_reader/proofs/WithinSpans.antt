@@ -56,7 +56,7 @@ parameter_before : (most : Limits) (ps : List (List ℕ)) (n k : ℕ) (s : List 
     → Before (parameter_flaw most ps n k s) (k + 2)
 parameter_before most ps n k s =
     first_before (ill_if (list_any (bytes_eq s) (take n ps)) Duplicate k) (over_if
-        (nat_le most.arguments n) Arguments k) (k + 2)
+    (nat_le most.arguments n) Arguments k) (k + 2)
     (ill_before (list_any (bytes_eq s) (take n ps)) Duplicate k (k + 2) (omega arith))
     (over_before (nat_le most.arguments n) Arguments k (k + 2) (omega arith))
 
@@ -79,7 +79,7 @@ module _ (most : Limits) (hs : List Heading) where
       let arity = length d.parameters in
       let cases = cases_flaw most hs arity (p + 1) d.cases in
       first_before (head_flaw most hs n k d) cases m (later (head_flaw most hs n k d) p m (omega arith)
-          (head_before n k d))
+      (head_before n k d))
       (later cases (p + 1 + heaps_span d.cases) m (omega arith)
       (heaps_before (term_flaw (InCase arity most.locals)) term_span some_span (term_before (InCase arity most.locals))
       most hs Cases

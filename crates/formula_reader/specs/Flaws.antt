@@ -66,7 +66,7 @@ cases_flaw most hs arity k cases = heaps_flaw (term_flaw (InCase arity most.loca
 abbrev pub definition_flaw : Limits → List Heading → ℕ → ℕ → Definition → Found
 definition_flaw most hs n k d =
     or_later (head_flaw most hs n k d) (cases_flaw most hs (length d.parameters)
-        (k + 3 + parameters_span d.parameters + 1)
+    (k + 3 + parameters_span d.parameters + 1)
     d.cases)
 
 abbrev pub definitions_flaw : Limits → List Heading → ℕ → List Definition → Found

@@ -32,12 +32,7 @@ pub fn open_locals(alloc: Global, heap: &Heap) -> Result<Vec<u16>, OutOfMemory> 
 }
 
 /// Adds the equation of a local and a parameter.
-fn push_choice(
-    heap: &mut Heap,
-    local: u16,
-    parameter: u16,
-    most: Limits,
-) -> Result<(), CheckFault>
+fn push_choice(heap: &mut Heap, local: u16, parameter: u16, most: Limits) -> Result<(), CheckFault>
     requires { AreLimits most }
     ensures { OnOk result (heap.new ≡ record {
       pure
@@ -55,12 +50,7 @@ fn push_choice(
 
 /// The formula with equations that make these locals parameters, from a number on; too much where a version with these
 /// limits has no room for them.
-pub fn opened(
-    heap: &Heap,
-    first: u32,
-    chosen: &[u16],
-    most: Limits,
-) -> Result<Heap, CheckFault>
+pub fn opened(heap: &Heap, first: u32, chosen: &[u16], most: Limits) -> Result<Heap, CheckFault>
     requires limits { AreLimits most }
     requires numbers { first + length chosen.now ≤ 65536 }
     ensures { IfOk result (λ b. b ≡ opened_by heap.now first chosen.now) }

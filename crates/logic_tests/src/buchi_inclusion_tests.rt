@@ -92,11 +92,7 @@ fn answers(rt: HostRuntime) -> Result<(), Fail> {
 
 /// A node with so many positions, and an edge back to it: each position but the last goes to itself without progress,
 /// and these pairs more.
-fn loop_of(
-    alloc: Global,
-    count: u8,
-    more: &[(u8, u8, bool)],
-) -> Result<TraceGraph, OutOfMemory> {
+fn loop_of(alloc: Global, count: u8, more: &[(u8, u8, bool)]) -> Result<TraceGraph, OutOfMemory> {
     let mut positions = Vec::new(alloc);
     let mut pairs = Vec::new(alloc);
     for position in 0..count {

@@ -211,15 +211,27 @@ module _ (f g : ProofFile) (up : IsWidened f g) where
 -- a later version allows as much
 later_allows : (v : Version) → AreWithin (limits v) (limits (upgraded v))
 later_allows One = record {
-  arguments = omega arith; cases = omega arith; locals = omega arith; pure = omega arith; spatial = omega arith;
+  arguments = omega arith;
+  cases = omega arith;
+  locals = omega arith;
+  pure = omega arith;
+  spatial = omega arith;
   cells = omega arith;
 }
 later_allows Two = record {
-  arguments = omega arith; cases = omega arith; locals = omega arith; pure = omega arith; spatial = omega arith;
+  arguments = omega arith;
+  cases = omega arith;
+  locals = omega arith;
+  pure = omega arith;
+  spatial = omega arith;
   cells = omega arith;
 }
 later_allows Three = record {
-  arguments = omega arith; cases = omega arith; locals = omega arith; pure = omega arith; spatial = omega arith;
+  arguments = omega arith;
+  cases = omega arith;
+  locals = omega arith;
+  pure = omega arith;
+  spatial = omega arith;
   cells = omega arith;
 }
 

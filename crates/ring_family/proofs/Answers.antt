@@ -84,7 +84,7 @@ module _ (k i : ℕ) (ds : List Definition) (small : i ≤ 2000) where
 
   pub unfolds_nil : cases_of ds k ≡ is_nil (Univ 0) ∷ cell_then (Univ 0) (Exist 0) k ∷ [] →
       rule_answer (limits One) ds [] (entails emp (holds k Nil)) (UnfoldRight 0 0) ≡ Ok (premise emp
-          (is_nil Nil) [] ∷ [])
+      (is_nil Nil) [] ∷ [])
   unfolds_nil cases = rw cases
 
   pub drops_pure : rule_answer (limits One) ds [] (entails emp (is_nil Nil)) (PureRight 0) ≡ Ok

@@ -168,6 +168,6 @@ module _ (k : ℕ) (one : 1 ≤ k) (few : k ≤ 2000) where
       let rest = none_listed_twice (node_flaw (limits One) hs 0) node_span (node_tree ds) file_node 0 (first_node file)
       (ring_nodes k) nodes in
       ap (λ (o : Found). or_later o (listed_flaw (node_flaw (limits One) hs 0) node_span 0
-          (first_node file) file.nodes))
+      (first_node file) file.nodes))
       (none_listed (definition_flaw (limits One) hs) definition_span (definition_tree ds) 0 4 ds
       (definitions_good 0 k (omega arith))) ∙ rest

@@ -228,12 +228,11 @@ short_picks (p ∷ ps) f = (short_pick p f.1.1.0, short_picks_behind ps (behind_
 pub run_short : (r : Run) → run.fits r → Each IsShortNumber r.stack × Each IsShortCell r.cells
     × Each IsShortPick r.picks
 unfolding run body course state
-run_short r f =
-    (
-      short_values r.stack f.1.1.1.0.0,
-      each_short r.cells (each_fits r.cells f.1.1.1.0.1),
-      short_picks r.picks f.1.1.1.1.0,
-    )
+run_short r f = (
+  short_values r.stack f.1.1.1.0.0,
+  each_short r.cells (each_fits r.cells f.1.1.1.0.1),
+  short_picks r.picks f.1.1.1.1.0,
+)
 
 -- each cell has a field
 some_field : (c : Cell) → cell.fits c → 0 < length c.fields

@@ -27,7 +27,13 @@ fn run_of_tree(alloc: Global, heads: &Heads<'_>, tree: &RunTree<'_>) -> Result<R
     requires right { first_flaw (run_of tree.now) ≡ None }
     ensures { IfOk result (IsRunOf (run_of tree.now)) }
 {
-    let front = front_values(alloc, heads, tree.version.format(), &tree.definitions, &tree.lines)?;
+    let front = front_values(
+        alloc,
+        heads,
+        tree.version.format(),
+        &tree.definitions,
+        &tree.lines,
+    )?;
     let precondition = heap_value(alloc, heads, &Scope::Outside, &tree.precondition)?;
     let stack = Stack::from_vec(wide_numbers(alloc, &tree.stack)?);
     let heap = cells(alloc, &tree.cells)?;

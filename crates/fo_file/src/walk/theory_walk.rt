@@ -20,7 +20,8 @@ use crate::walk::atom_walk::walk_atoms;
 use crate::walk::flaw::{Reached, Scope, Stop};
 use crate::walk::known::Names;
 use cyc_basics::limits::{
-    MOST_FIRST_ORDER_ARGUMENTS, MOST_CASE_ATOMS, MOST_FIRST_ORDER_CASES, MOST_CONSTRUCTORS, MOST_PREDICATES,
+    MOST_CASE_ATOMS, MOST_CONSTRUCTORS, MOST_FIRST_ORDER_ARGUMENTS, MOST_FIRST_ORDER_CASES,
+    MOST_PREDICATES,
 };
 use cyc_lex::{IllFault, What};
 use fo_syntax::problems::{ConstructorTree, DefinitionTree};

@@ -129,5 +129,10 @@ pub fn is_short_run(
     ensures { IfOk result (λ b. b ≡ is_short_run most stack.now heap.now picks.now outcome.now) }
 {
     let is_short = is_short_heap(alloc, most, heap)?;
-    Ok(is_short_stack(stack) && is_short && are_short_picks(most, picks) && is_short_outcome(outcome))
+    Ok(
+        is_short_stack(stack)
+            && is_short
+            && are_short_picks(most, picks)
+            && is_short_outcome(outcome),
+    )
 }
