@@ -1,5 +1,6 @@
 // What the tests of several crates are given.
 use heap_formula::{Args, Heap, OutOfMemory, Pure, Spatial, Term};
+use heap_syntax::Version;
 use pred_defs::Defs;
 use std::alloc::Global;
 use std::test::Fail;
@@ -63,7 +64,7 @@ pub fn heaps(alloc: Global, rows: &[HeapRow]) -> Result<Vec<Heap>, Fail> {
 
 /// One definition with these cases; a test without a case fails.
 pub fn defined(alloc: Global, arity: u32, cases: &[HeapRow]) -> Result<Defs, Fail> {
-    let mut defs = Defs::new(alloc, 16);
+    let mut defs = Defs::new(alloc, Version::One.limits());
     let cases = heaps(alloc, cases)?;
     if cases.is_empty() {
         return Err("no case".into());

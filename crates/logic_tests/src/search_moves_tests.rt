@@ -10,6 +10,7 @@ use goto_lang::{Program, ProgramFault};
 use heap_formula::{
     Command, Disjuncts, Heap, Judgement, Link, Pairs, Positions, Pure, Reason, Rule, Side, Term,
 };
+use heap_syntax::Version;
 use pred_defs::Defs;
 use proof_graph::{Graph, PremisePairs};
 use search_moves::offers;
@@ -383,7 +384,7 @@ fn judgement(alloc: Global, said: Said) -> Result<Judgement, Fail> {
 fn definitions(alloc: Global) -> Result<Defs, Fail>
     ensures { IfOk result (λ d. Each IsSmall d.list) }
 {
-    let mut defs = Defs::new(alloc, 16);
+    let mut defs = Defs::new(alloc, Version::One.limits());
     let none = heap(alloc, HeapRow(&[Pure::Eq(X, NIL)], &[]))?;
     let some = heap(alloc, HeapRow(&[], &[Shape::At(X, &[E]), Shape::List(E)]))?;
     defs.push("list", 1, &[none, some])?;

@@ -32,7 +32,7 @@ use Rattle.run_file.specs.declared.tree.Outcome.TheVariants.{Faults, Repeats, Gr
 use Rattle.run_file.specs.Grammar.{picks_word, jump_word, next_word, faults_word, repeats_word, step_word}
 use Rattle.run_file.specs.Grammar.{state_claimed, claim, to_pick, from_pick, pick, some_pick, picks1, picks, then_step}
 use Rattle.run_file.specs.Grammar.{faulting, repeating, to_outcome, from_outcome, outcome, ending, course, Parts}
-use Rattle.run_file.specs.Grammar.{Contents, contents}
+use Rattle.run_file.specs.Grammar.{contents}
 use Rattle.run_file.specs.Grammar.{to_run, from_run, body, run, grows_word, with_word, to_pair, from_pair, value_pair}
 use Rattle.run_file.specs.Grammar.{some_pair, value_pairs, to_growth, from_growth, growing, Ends}
 

@@ -9,9 +9,9 @@ invariant_of-model c =
     c.set_most.ensures ∙ ap (λ (b : DefinitionBook). b.list) c.in_ok-defs.ensures.cases in record {
       limit = ap (λ (b : DefinitionBook). b.most) c.set_most.ensures ∙ c.limits.ensures.value;
       fits = file_fits c.args.problem.now c.args.antecedent.now c.args._disjuncts.now c.args.stack c.args.heap
-          c.requires.goal c.requires.plain c.for_version.result c.set_most.new.self.list c.in_ok-ask.ask
-          c.for_version.ensures same c.in_ok-ask.ensures.cases;
+          c.requires.goal c.requires.plain c.for_version-version.result c.set_most.new.self.list c.in_ok-ask.ask
+          c.for_version-version.ensures same c.in_ok-ask.ensures.cases;
       flawless = file_flawless c.args.problem.now c.args.antecedent.now c.args._disjuncts.now c.args.stack c.args.heap
-          c.requires.goal c.requires.plain c.for_version.result c.set_most.new.self.list c.in_ok-ask.ask
-          c.for_version.ensures same c.in_ok-ask.ensures.cases;
+          c.requires.goal c.requires.plain c.for_version-version.result c.set_most.new.self.list c.in_ok-ask.ask
+          c.for_version-version.ensures same c.in_ok-ask.ensures.cases;
     }
