@@ -29,7 +29,10 @@ pub const LONGEST_NUMBER: usize = 9;
 pub const MOST_PREDICATES: usize = 4096;
 
 /// Parameters of a predicate, and fields of a cell, in any version of the formats, at most.
-pub const MOST_ARGUMENTS: usize = 8;
+pub const MOST_ARGUMENTS: usize = 64;
+
+/// Terms that a list holds in itself, with no memory of its own, at most.
+pub const MOST_INLINE: usize = 8;
 
 /// Cases of a definition in any version of the formats, at most.
 pub const MOST_CASES: usize = 64;

@@ -9,6 +9,7 @@ ghost use Rattle.heap_formula.specs.Symbolic.{SymbolicHeap};
 ghost use Rattle.pred_defs.specs.Bodies.{fresh_local, body_term, body_of, first_fresh};
 
 use crate::library::Defs;
+use cyc_basics::limits::MOST_INLINE;
 use cyc_basics::memory::OutOfMemory;
 use heap_formula::{Args, Heap, Pure, Spatial, Term};
 use std::alloc::Global;
@@ -52,16 +53,39 @@ fn of_term(args: &Args, fresh: Fresh, term: Term) -> Term
     }
 }
 
-fn of_args(args: &Args, fresh: Fresh, terms: &Args) -> Args
-    requires { first_fresh fresh + max_of (map exist_bound terms.now) ≤ 65536 }
+fn of_few(args: &Args, fresh: Fresh, terms: &[Term]) -> Args
+    requires few { length terms.now ≤ MOST_INLINE }
+    requires small { first_fresh fresh + max_of (map exist_bound terms.now) ≤ 65536 }
     ensures { result ≡ map (body_term args.now fresh) terms.now }
 {
-    let mut made = [Term::Nil; 8];
-    let count = terms.len();
-    for (i, term) in terms.as_slice().iter().enumerate() {
+    let mut made = [Term::Nil; MOST_INLINE];
+    for (i, term) in terms.iter().enumerate() {
         made[i] = of_term(args, fresh, *term);
     }
-    Args::from_slice(&made[..count])
+    Args::from_few(&made[..terms.len()])
+}
+
+fn of_many(alloc: Global, args: &Args, fresh: Fresh, terms: &[Term]) -> Result<Vec<Term>, OutOfMemory>
+    requires { first_fresh fresh + max_of (map exist_bound terms.now) ≤ 65536 }
+    ensures value { IfOk result (λ v. v.items ≡ map (body_term args.now fresh) terms.now) }
+    ensures size { IfOk result (λ v. length v.items ≡ length terms.now) }
+{
+    let mut made = Vec::with_capacity(alloc, terms.len())?;
+    for term in terms {
+        made.push(of_term(args, fresh, *term))?;
+    }
+    Ok(made)
+}
+
+fn of_args(alloc: Global, args: &Args, fresh: Fresh, terms: &Args) -> Result<Args, OutOfMemory>
+    requires { first_fresh fresh + max_of (map exist_bound terms.now) ≤ 65536 }
+    ensures { IfOk result (λ ts. ts ≡ map (body_term args.now fresh) terms.now) }
+{
+    let terms = terms.as_slice();
+    if terms.len() <= MOST_INLINE {
+        return Ok(of_few(args, fresh, terms));
+    }
+    Args::from_vec(of_many(alloc, args, fresh, terms)?)
 }
 
 fn of_pure(args: &Args, fresh: Fresh, atom: Pure) -> Pure
@@ -74,15 +98,21 @@ fn of_pure(args: &Args, fresh: Fresh, atom: Pure) -> Pure
     }
 }
 
-fn of_spatial(args: &Args, fresh: Fresh, atom: &Spatial) -> Spatial
+fn of_spatial(
+    alloc: Global,
+    args: &Args,
+    fresh: Fresh,
+    atom: &Spatial,
+) -> Result<Spatial, OutOfMemory>
     requires { first_fresh fresh + spatial_exists atom.now ≤ 65536 }
-    ensures { result ≡ in_spatial (body_term args.now fresh) atom.now }
+    ensures { IfOk result (λ x. x ≡ in_spatial (body_term args.now fresh) atom.now) }
 {
     match atom {
-        Spatial::Cell(t, terms) => {
-            Spatial::Cell(of_term(args, fresh, *t), of_args(args, fresh, terms))
-        }
-        Spatial::Pred(q, terms) => Spatial::Pred(*q, of_args(args, fresh, terms)),
+        Spatial::Cell(t, terms) => Ok(Spatial::Cell(
+            of_term(args, fresh, *t),
+            of_args(alloc, args, fresh, terms)?,
+        )),
+        Spatial::Pred(q, terms) => Ok(Spatial::Pred(*q, of_args(alloc, args, fresh, terms)?)),
     }
 }
 
@@ -115,7 +145,7 @@ fn of_spatials(
 {
     let mut made = Vec::new(alloc);
     for atom in atoms {
-        made.push(of_spatial(args, fresh, atom))?;
+        made.push(of_spatial(alloc, args, fresh, atom)?)?;
     }
     Ok(made)
 }

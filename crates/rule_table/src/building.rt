@@ -73,7 +73,7 @@ pub fn with_pure_atoms(
     requires { length pure.items ≤ MOST_PURE }
     ensures { IfOk result (λ p. p ≡ with_pures judgement.now pure.items) }
 {
-    let spatial = Vec::from_slice(alloc, antecedent(judgement).spatial())?;
+    let spatial = Vec::from_clones(alloc, antecedent(judgement).spatial())?;
     let pairs = pairs_of_same(alloc, antecedent(judgement).spatial())?;
     Ok(Premise {
         judgement: with_antecedent(judgement, Heap::from_lists(pure, spatial))?,

@@ -1,15 +1,16 @@
 // Terms in place of others.
-ghost use Rattle.std.specs.Prelude.{◌≡◌, ◌+◌, ◌≤◌, ◌++◌, min, map, IfOk, OnOk, slice_index_or};
+ghost use Rattle.std.specs.Prelude.{◌≡◌, ◌+◌, ◌≤◌, ◌++◌, min, map, IfOk, OnOk, slice_index_or, length};
 ghost use Rattle.heap_formula.specs.declared.terms.Term.TheVariants.{Nil, Exist};
 ghost use Rattle.heap_formula.specs.Substitution.{in_pure, in_spatial, in_heap};
 ghost use Rattle.rule_table.specs.Changes.{changed, IsSmall};
 ghost use Rattle.rule_table.specs.Table.{instance_term};
 
+use cyc_basics::limits::MOST_INLINE;
 use heap_formula::{Args, Heap, OutOfMemory, Pure, Spatial, Term};
 use std::alloc::Global;
 
 /// Which terms stand for the variables of a formula.
-#[derive(Clone, Copy)]
+#[derive(Drop)]
 pub enum Change {
     /// Arguments for the parameters of a case, and universal variables from a number on for its locals.
     Left(Args, u32),
@@ -63,16 +64,39 @@ fn of_term(change: &Change, term: Term) -> Term
     }
 }
 
-fn of_args(change: &Change, args: &Args) -> Args
-    requires { IsSmall change.now }
+fn of_few(change: &Change, args: &[Term]) -> Args
+    requires small { IsSmall change.now }
+    requires few { length args.now ≤ MOST_INLINE }
     ensures { result ≡ map (changed change.now) args.now }
 {
-    let mut terms = [Term::Nil; 8];
-    let count = args.len();
-    for (i, term) in args.as_slice().iter().enumerate() {
+    let mut terms = [Term::Nil; MOST_INLINE];
+    for (i, term) in args.iter().enumerate() {
         terms[i] = of_term(change, *term);
     }
-    Args::from_slice(&terms[..count])
+    Args::from_few(&terms[..args.len()])
+}
+
+fn of_many(alloc: Global, change: &Change, args: &[Term]) -> Result<Vec<Term>, OutOfMemory>
+    requires { IsSmall change.now }
+    ensures value { IfOk result (λ v. v.items ≡ map (changed change.now) args.now) }
+    ensures size { IfOk result (λ v. length v.items ≡ length args.now) }
+{
+    let mut terms = Vec::with_capacity(alloc, args.len())?;
+    for term in args {
+        terms.push(of_term(change, *term))?;
+    }
+    Ok(terms)
+}
+
+fn of_args(alloc: Global, change: &Change, args: &Args) -> Result<Args, OutOfMemory>
+    requires { IsSmall change.now }
+    ensures { IfOk result (λ ts. ts ≡ map (changed change.now) args.now) }
+{
+    let args = args.as_slice();
+    if args.len() <= MOST_INLINE {
+        return Ok(of_few(change, args));
+    }
+    Args::from_vec(of_many(alloc, change, args)?)
 }
 
 fn of_pure(change: &Change, atom: Pure) -> Pure
@@ -85,13 +109,16 @@ fn of_pure(change: &Change, atom: Pure) -> Pure
     }
 }
 
-fn of_spatial(change: &Change, atom: &Spatial) -> Spatial
+fn of_spatial(alloc: Global, change: &Change, atom: &Spatial) -> Result<Spatial, OutOfMemory>
     requires { IsSmall change.now }
-    ensures { result ≡ in_spatial (changed change.now) atom.now }
+    ensures { IfOk result (λ x. x ≡ in_spatial (changed change.now) atom.now) }
 {
     match atom {
-        Spatial::Cell(t, args) => Spatial::Cell(of_term(change, *t), of_args(change, args)),
-        Spatial::Pred(p, args) => Spatial::Pred(*p, of_args(change, args)),
+        Spatial::Cell(t, args) => Ok(Spatial::Cell(
+            of_term(change, *t),
+            of_args(alloc, change, args)?,
+        )),
+        Spatial::Pred(p, args) => Ok(Spatial::Pred(*p, of_args(alloc, change, args)?)),
     }
 }
 
@@ -112,6 +139,7 @@ pub fn push_changed_pure(
 
 /// Appends the atoms with the change made.
 pub fn push_changed_spatial(
+    alloc: Global,
     all: &mut Vec<Spatial>,
     change: &Change,
     atoms: &[Spatial],
@@ -120,7 +148,7 @@ pub fn push_changed_spatial(
     ensures { OnOk result (all.new.items ≡ all.old.items ++ map (in_spatial (changed change.now)) atoms.now) }
 {
     for atom in atoms {
-        all.push(of_spatial(change, atom))?;
+        all.push(of_spatial(alloc, change, atom)?)?;
     }
     Ok(())
 }
@@ -135,7 +163,7 @@ pub fn changed_spatial_atoms(
     ensures { IfOk result (λ v. v.items ≡ map (in_spatial (changed change.now)) atoms.now) }
 {
     let mut all = Vec::new(alloc);
-    push_changed_spatial(&mut all, change, atoms)?;
+    push_changed_spatial(alloc, &mut all, change, atoms)?;
     Ok(all)
 }
 

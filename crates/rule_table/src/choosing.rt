@@ -56,7 +56,7 @@ fn pick_atoms(
     let mut chosen = Vec::new(alloc);
     for (i, atom) in atoms.iter().enumerate() {
         if is_taken(outside, places, i) {
-            chosen.push(*atom)?;
+            chosen.push(atom.clone()?)?;
         }
     }
     Ok(chosen)

@@ -7,7 +7,7 @@ ghost use Rattle.unfold_rule.specs.Joining.{joined};
 
 use cyc_basics::limits::{MOST_PURE, MOST_SPATIAL};
 use cyc_basics::memory::OutOfMemory;
-use heap_formula::{Heap, Pure, Spatial};
+use heap_formula::{Heap, Pure, Spatial, push_copies};
 use rule_table::{Change, push_changed_pure, push_changed_spatial};
 use std::alloc::Global;
 
@@ -24,8 +24,8 @@ pub fn kept_atoms(
     ensures shorter { IfOk result (λ v. length v.items + 1 ≡ length atoms.now) }
 {
     let mut kept = Vec::with_capacity(alloc, atoms.len() + more)?;
-    kept.extend_from_slice(&atoms[..k])?;
-    kept.extend_from_slice(&atoms[k + 1..])?;
+    push_copies(&mut kept, &atoms[..k])?;
+    push_copies(&mut kept, &atoms[k + 1..])?;
     Ok(kept)
 }
 
@@ -47,6 +47,6 @@ pub fn joined_heap(
     pure.extend_from_slice(first_pure)?;
     push_changed_pure(&mut pure, change, formula.pure())?;
     let mut spatial = first_spatial;
-    push_changed_spatial(&mut spatial, change, formula.spatial())?;
+    push_changed_spatial(alloc, &mut spatial, change, formula.spatial())?;
     Ok(Heap::from_lists(pure, spatial))
 }

@@ -146,7 +146,7 @@ fn unfold_cases(
     if !all_fit(most, judgement, cases) {
         return Err(RuleError::Fault(RuleFault::TooManyAtoms));
     }
-    let change = Change::Left(*args, fresh(judgement, p));
+    let change = Change::Left(args.clone()?, fresh(judgement, p));
     numbered(unfolded_premises(alloc, most, judgement, k, &change, cases)?)
 }
 

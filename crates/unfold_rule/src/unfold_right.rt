@@ -65,7 +65,7 @@ fn unfold_case(
     if !fits(most, a, b, case) {
         return Err(RuleError::Fault(RuleFault::TooManyAtoms));
     }
-    let change = Change::Right(*args, exists_in_heap(b));
+    let change = Change::Right(args.clone()?, exists_in_heap(b));
     numbered(right_premises(alloc, a, b, k, &change, case)?)
 }
 

@@ -1,6 +1,0 @@
-use Rattle.std.proofs.Common.{◌≡◌, map, take, length}
-use Rattle.rule_table.specs.Changes.{changed}
-use Rattle.rule_table.proofs.changes.of_args.Given as goal
-
-abbrev pub invariant-loop-i : goal.invariant-loop-i
-invariant-loop-i l = (take l.i l.terms ≡ map (changed l.change) (take l.i l.args)) × (length l.terms ≡ 8)
