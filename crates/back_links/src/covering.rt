@@ -9,7 +9,7 @@ ghost use Rattle.rule_table.specs.Tests.{has_pure, follows};
 
 use cyc_basics::limits::MOST_DISJUNCTS;
 use heap_formula::{
-    Heap, Judgement, Pure, RuleFault, Spatial, Subst, apply_to_pure, apply_to_spatial,
+    Heap, Judgement, Pure, RuleFault, Spatial, Subst, Term, agree_after, apply_to_pure,
 };
 use rule_table::{equated, has_pure as has_atom};
 
@@ -38,18 +38,37 @@ fn count_in(x: &Spatial, atoms: &[Spatial]) -> usize
     count
 }
 
-/// How often the list has the atom after the substitution.
-fn count_after(x: &Spatial, subst: &Subst, atoms: &[Spatial]) -> usize
-    ensures value { result ≡ count_of x.now (map (apply_spatial subst.now) atoms.now) }
+/// How often the list has the atom, each with the terms of its pairs.
+fn count_with(
+    x: &Spatial,
+    pairs: &[(u16, Term)],
+    atoms: &[Spatial],
+    atoms_pairs: &[(u16, Term)],
+) -> usize
+    ensures value { result ≡ count_of (apply_spatial pairs.now x.now) (map (apply_spatial atoms_pairs.now) atoms.now) }
     ensures fits { result ≤ length atoms.now }
 {
     let mut count: usize = 0;
     for y in atoms {
-        if *x == apply_to_spatial(y, subst) {
+        if agree_after(x, pairs, y, atoms_pairs) {
             count += 1;
         }
     }
     count
+}
+
+/// How often the list has the atom after the substitution.
+fn count_after(x: &Spatial, subst: &Subst, atoms: &[Spatial]) -> usize
+    ensures { result ≡ count_of x.now (map (apply_spatial subst.now) atoms.now) }
+{
+    count_with(x, &[], atoms, subst.pairs())
+}
+
+/// How often the list has what the atom is after the substitution.
+fn count_of_image(x: &Spatial, subst: &Subst, atoms: &[Spatial]) -> usize
+    ensures { result ≡ count_of (apply_spatial subst.now x.now) atoms.now }
+{
+    count_with(x, subst.pairs(), atoms, &[])
 }
 
 fn agree_on_these(xs: &[Spatial], subst: &Subst, ys: &[Spatial]) -> bool
@@ -68,8 +87,7 @@ fn agree_on_those(xs: &[Spatial], subst: &Subst, ys: &[Spatial]) -> bool
         ≡ counts_agree xs.now (map (apply_spatial subst.now) ys.now) (map (apply_spatial subst.now) ys.now) }
 {
     for z in ys {
-        let w = apply_to_spatial(z, subst);
-        if count_in(&w, xs) != count_after(&w, subst, ys) {
+        if count_of_image(z, subst, xs) != count_with(z, subst.pairs(), ys, subst.pairs()) {
             return false;
         }
     }

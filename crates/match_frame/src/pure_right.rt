@@ -17,7 +17,7 @@ fn shortened(alloc: Global, a: &Heap, b: &Heap, k: usize) -> Result<Vec<Premise>
     ensures { IfOk result (λ v. v.items ≡ one (with_right a.now (without_pure k b.now ∷ []))) }
 {
     let pure = atoms_without(alloc, b.pure(), k)?;
-    let spatial = Vec::from_slice(alloc, b.spatial())?;
+    let spatial = Vec::from_clones(alloc, b.spatial())?;
     one_premise(
         alloc,
         with_disjunct(alloc, a, Heap::from_lists(pure, spatial))?,

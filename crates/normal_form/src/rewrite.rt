@@ -47,7 +47,7 @@ fn settled(alloc: Global, a: &Heap, k: usize, x: Pure, drops: bool) -> Result<He
           spatial = a.now.spatial;
         }) }
 {
-    let spatial = Vec::from_slice(alloc, a.spatial())?;
+    let spatial = Vec::from_clones(alloc, a.spatial())?;
     if drops {
         let pure = atoms_without(alloc, a.pure(), k)?;
         Ok(Heap::from_lists(pure, spatial))

@@ -5,6 +5,7 @@ ghost use Rattle.cyc_basics.specs.declared.limits.TheConstants.{MOST_DISJUNCTS, 
 
 use crate::heap_lists::heap_views;
 use bumpalo::Bump;
+use bumpalo::collections::into_bump_slice;
 use cyc_basics::memory::OutOfMemory;
 use heap_formula::{Disjuncts, Heap, Judgement, Pure, Spatial};
 use std::alloc::Global;
@@ -41,8 +42,11 @@ impl<'a> HeapView<'a> {
         ensures { IfOk result (λ h. heap_of h ≡ heap.now) }
     {
         let pure: &'a [Pure] = arena.try_alloc_slice_copy(heap.pure())?;
-        let spatial: &'a [Spatial] = arena.try_alloc_slice_copy(heap.spatial())?;
-        Ok(HeapView { pure, spatial })
+        let spatial: Vec<Spatial, &'a Bump> = Vec::from_clones(arena, heap.spatial())?;
+        Ok(HeapView {
+            pure,
+            spatial: into_bump_slice(spatial),
+        })
     }
 
     /// The heap, copied out of the arena.

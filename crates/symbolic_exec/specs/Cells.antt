@@ -10,7 +10,7 @@ use Rattle.symbolic_exec.specs.declared.cells.FoundCell.{FoundCell}
 
 -- the program's cell as the table has it
 abbrev pub found_of : FoundCell → Found
-found_of c = record { place = c.place; address = c.address; fields = c.fields }
+found_of c = record { place = c.place; address = c.address; fields = c.fields.now }
 
 -- the atom at place k, if it is a cell whose address is t or is equated with it
 abbrev pub own_cell : ℕ → List Pure → Term → Spatial → Option Found

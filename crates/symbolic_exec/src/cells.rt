@@ -1,22 +1,30 @@
 // The cell that a command reads, writes or frees.
-ghost use Rattle.std.specs.Prelude.{◌≡◌, ◌<◌, ◌-◌, None, Some, MatchOption, length, slice_set};
+ghost use Rattle.std.specs.Prelude.{◌≡◌, ◌<◌, ◌-◌, None, Some, MatchOption, length, slice_set, IfOk};
 ghost use Rattle.heap_formula.specs.Programs.{counted_from_one};
 ghost use Rattle.rule_table.specs.ExecTable.{cell_of};
 ghost use Rattle.symbolic_exec.specs.Cells.{found_of, own_cell, cell_from};
 
+use cyc_basics::limits::MOST_ARGUMENTS;
+use cyc_basics::memory::OutOfMemory;
 use heap_formula::{Args, Heap, Pure, Spatial, Term};
 use rule_table::equated;
+use std::alloc::Global;
 
 /// A cell of a symbolic state: its place among the spatial atoms, its address and its fields.
 #[derive(Clone, Copy)]
-pub struct FoundCell {
+pub struct FoundCell<'a> {
     pub place: usize,
     pub address: Term,
-    pub fields: Args,
+    pub fields: &'a Args,
 }
 
 // The atom, if it is a cell whose address is t or is equated with it.
-fn own_cell_at(pures: &[Pure], t: Term, place: usize, atom: &Spatial) -> Option<FoundCell>
+fn own_cell_at<'a>(
+    pures: &[Pure],
+    t: Term,
+    place: usize,
+    atom: &'a Spatial,
+) -> Option<FoundCell<'a>>
     ensures { MatchOption result (own_cell place pures.now t atom.now
         ≡ None) (λ c. own_cell place pures.now t atom.now ≡ Some (found_of c)) }
 {
@@ -26,7 +34,7 @@ fn own_cell_at(pures: &[Pure], t: Term, place: usize, atom: &Spatial) -> Option<
                 Some(FoundCell {
                     place,
                     address: *u,
-                    fields: *fields,
+                    fields,
                 })
             } else {
                 None
@@ -36,7 +44,7 @@ fn own_cell_at(pures: &[Pure], t: Term, place: usize, atom: &Spatial) -> Option<
     }
 }
 
-fn first_cell(pures: &[Pure], t: Term, atoms: &[Spatial]) -> Option<FoundCell>
+fn first_cell<'a>(pures: &[Pure], t: Term, atoms: &'a [Spatial]) -> Option<FoundCell<'a>>
     ensures { MatchOption result (cell_from 0 pures.now t atoms.now ≡ None) (λ c. cell_from 0 pures.now t atoms.now
         ≡ Some (found_of c)) }
 {
@@ -49,7 +57,7 @@ fn first_cell(pures: &[Pure], t: Term, atoms: &[Spatial]) -> Option<FoundCell>
 }
 
 /// The first cell whose address is `t`, or stands with it in one equation.
-pub fn cell_at(a: &Heap, t: Term) -> Option<FoundCell>
+pub fn cell_at(a: &Heap, t: Term) -> Option<FoundCell<'_>>
     ensures { MatchOption result (cell_of a.now.pure t a.now.spatial
         ≡ None) (λ c. cell_of a.now.pure t a.now.spatial ≡ Some (found_of c)) }
 {
@@ -68,14 +76,19 @@ pub fn field_at(fields: &Args, k: u8) -> Option<Term>
 }
 
 /// The fields with another term for field `k`, counted from 1.
-pub fn with_field(fields: &Args, k: u8, t: Term) -> Args
+pub fn with_field(
+    alloc: Global,
+    fields: &Args,
+    k: u8,
+    t: Term,
+) -> Result<Args, OutOfMemory>
     requires from_one { 0 < k }
     requires within { k - 1 < length fields.now }
-    ensures { result ≡ slice_set fields.now (k - 1) t }
+    ensures { IfOk result (λ ts. ts ≡ slice_set fields.now (k - 1) t) }
 {
-    let mut terms = [Term::Nil; 8];
+    let mut terms = [Term::Nil; MOST_ARGUMENTS];
     let count = fields.len();
     terms[..count].copy_from_slice(fields.as_slice());
     terms[k as usize - 1] = t;
-    Args::from_slice(&terms[..count])
+    Args::from_slice(alloc, &terms[..count])
 }

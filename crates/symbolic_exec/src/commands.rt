@@ -65,20 +65,21 @@ fn load(
     let Some(cell) = cell_at(a, t) else {
         return Err(RuleError::Fault(RuleFault::NoCell));
     };
-    let Some(field) = field_at(&cell.fields, k) else {
+    let Some(field) = field_at(cell.fields, k) else {
         return Err(RuleError::Fault(RuleFault::NoCell));
     };
     set(alloc, at, a, x, field)
 }
 
-fn written(alloc: Global, a: &Heap, cell: &FoundCell, k: u8, u: Term) -> Result<Heap, OutOfMemory>
+fn written(alloc: Global, a: &Heap, cell: &FoundCell<'_>, k: u8, u: Term) -> Result<Heap, OutOfMemory>
     requires from_one { 0 < k }
-    requires field_in { k ≤ length cell.now.fields }
+    requires field_in { k ≤ length cell.now.fields.now }
     requires place_in { cell.now.place < length a.now.spatial }
     ensures { IfOk result (λ h. h ≡ heap_with_field a.now (found_of cell.now) k u) }
 {
-    let mut spatial = Vec::from_slice(alloc, a.spatial())?;
-    spatial[cell.place] = Spatial::Cell(cell.address, with_field(&cell.fields, k, u));
+    let fields = with_field(alloc, cell.fields, k, u)?;
+    let mut spatial = Vec::from_clones(alloc, a.spatial())?;
+    spatial[cell.place] = Spatial::Cell(cell.address, fields);
     Ok(Heap::from_lists(Vec::from_slice(alloc, a.pure())?, spatial))
 }
 
@@ -96,7 +97,7 @@ fn store(
     let Some(cell) = cell_at(a, t) else {
         return Err(RuleError::Fault(RuleFault::NoCell));
     };
-    if field_at(&cell.fields, k).is_none() {
+    if field_at(cell.fields, k).is_none() {
         return Err(RuleError::Fault(RuleFault::NoCell));
     }
     if !is_short(at.most, a) {

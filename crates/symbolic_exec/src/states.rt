@@ -45,14 +45,14 @@ pub fn with_atom(alloc: Global, a: &Heap, atom: Pure) -> Result<Heap, OutOfMemor
 {
     let mut pure = Vec::from_slice(alloc, a.pure())?;
     pure.push(atom)?;
-    Ok(Heap::from_lists(pure, Vec::from_slice(alloc, a.spatial())?))
+    Ok(Heap::from_lists(pure, Vec::from_clones(alloc, a.spatial())?))
 }
 
 fn with_cell(alloc: Global, a: &Heap, x: u16, fields: Args) -> Result<Heap, OutOfMemory>
     requires { length a.now.spatial < MOST_SPATIAL }
     ensures { IfOk result (λ h. h ≡ heap_with_cell a.now x fields) }
 {
-    let mut spatial = Vec::from_slice(alloc, a.spatial())?;
+    let mut spatial = Vec::from_clones(alloc, a.spatial())?;
     spatial.push(Spatial::Cell(Term::Univ(x), fields))?;
     Ok(Heap::from_lists(Vec::from_slice(alloc, a.pure())?, spatial))
 }
@@ -88,16 +88,16 @@ pub fn assigned(alloc: Global, a: &Heap, x: u16, n: u32, t: Term) -> Result<Heap
 }
 
 // The variables from number n on, k of them.
-fn variables(n: u32, k: u8) -> Args
+fn variables(alloc: Global, n: u32, k: u8) -> Result<Args, OutOfMemory>
     requires small { n ≤ 65537 }
     requires few { k ≤ MOST_ARGUMENTS }
-    ensures { result ≡ variables_up_to n k }
+    ensures { IfOk result (λ ts. ts ≡ variables_up_to n k) }
 {
-    let mut terms = [Term::Nil; 8];
+    let mut terms = [Term::Nil; MOST_ARGUMENTS];
     for i in 0..k as usize {
         terms[i] = Term::Univ(number(n + i as u32));
     }
-    Args::from_slice(&terms[..k as usize])
+    Args::from_slice(alloc, &terms[..k as usize])
 }
 
 /// The state after `x := new k`: variable `n` stands for the old value of `x`, and those after it for the cell's
@@ -110,5 +110,5 @@ pub fn allocated(alloc: Global, a: &Heap, x: u16, n: u32, k: u8) -> Result<Heap,
 {
     let subst = renaming(alloc, x, n)?;
     let old = apply_to_heap(alloc, a, &subst)?;
-    with_cell(alloc, &old, x, variables(n + 1, k))
+    with_cell(alloc, &old, x, variables(alloc, n + 1, k)?)
 }
