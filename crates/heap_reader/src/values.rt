@@ -15,16 +15,16 @@ use heap_formula::{Args, Cases, Def, DefName, Disjuncts, Heap, Judgement, Pure, 
 use heap_syntax::{HeapTree, PureTree, SpatialTree};
 use std::alloc::Global;
 
-fn args<F: TermReader>(form: &F, trees: &[F::Term]) -> Args
+fn args<F: TermReader>(alloc: Global, form: &F, trees: &[F::Term]) -> Result<Args, OutOfMemory>
     requires small { Each (IsSmall F.value) trees.now }
     requires few { length trees.now ≤ MOST_ARGUMENTS }
-    ensures { result ≡ map F.value trees.now }
+    ensures { IfOk result (λ ts. ts ≡ map F.value trees.now) }
 {
-    let mut terms = [Term::Nil; 8];
+    let mut terms = [Term::Nil; MOST_ARGUMENTS];
     for (i, tree) in trees.iter().enumerate() {
         terms[i] = form.value(*tree);
     }
-    Args::from_slice(&terms[..trees.len()])
+    Args::from_slice(alloc, &terms[..trees.len()])
 }
 
 fn pure_atom<F: TermReader>(form: &F, tree: PureTree<F::Term>) -> Pure
@@ -55,20 +55,23 @@ fn pure_atoms<F: TermReader>(
 }
 
 fn spatial_atom<F: TermReader>(
+    alloc: Global,
     heads: &Heads<'_>,
     form: &F,
     tree: &SpatialTree<'_, F::Term>,
-) -> Spatial
+) -> Result<Spatial, OutOfMemory>
     requires small { IsSmallSpatial F.value (spatial_of tree.now) }
     requires few { length heads.now ≤ MOST_PREDICATES }
-    ensures { result ≡ spatial_value F.value heads.now (spatial_of tree.now) }
+    ensures { IfOk result (λ x. x ≡ spatial_value F.value heads.now (spatial_of tree.now)) }
 {
     match tree {
         SpatialTree::Cell(address, fields) => {
-            Spatial::Cell(form.value(*address), args(form, fields))
+            let fields = args(alloc, form, fields)?;
+            Ok(Spatial::Cell(form.value(*address), fields))
         }
         SpatialTree::Predicate(name, terms) => {
-            Spatial::Pred(heads.place_of(name) as u16, args(form, terms))
+            let terms = args(alloc, form, terms)?;
+            Ok(Spatial::Pred(heads.place_of(name) as u16, terms))
         }
     }
 }
@@ -86,7 +89,7 @@ fn spatial_atoms<F: TermReader>(
 {
     let mut atoms = Vec::with_capacity(alloc, trees.len())?;
     for tree in trees {
-        atoms.push(spatial_atom(heads, form, tree))?;
+        atoms.push(spatial_atom(alloc, heads, form, tree)?)?;
     }
     Ok(atoms)
 }

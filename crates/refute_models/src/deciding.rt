@@ -139,7 +139,7 @@ impl<'a> Decider<'a> {
             return Ok(());
         };
         self.work = self.work.saturating_add(1);
-        match asked.next(&mut way) {
+        match asked.next(&mut way)? {
             None => Ok(()),
             Some(Next::Done) => {
                 if asked.wants(way.part.cells) {

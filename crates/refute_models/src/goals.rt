@@ -25,6 +25,6 @@ impl Start {
 
     /// A copy of the predicate atoms.
     pub fn atoms(&self, alloc: Global) -> Result<Vec<OpenAtom>, OutOfMemory> {
-        Ok(Vec::from_slice(alloc, &self.open)?)
+        Ok(Vec::from_clones(alloc, &self.open)?)
     }
 }

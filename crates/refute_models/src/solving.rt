@@ -53,7 +53,7 @@ enum Settling {
 
 /// What is to be done next on a way: a predicate atom at a place has known arguments; a term is to take the values of
 /// cells, or each value below the bound and a new one, or a new one; or all is done.
-#[derive(Clone, Copy)]
+#[derive(Drop)]
 pub enum Next {
     Ask(usize, PredicateUse),
     Address(Term),
@@ -104,7 +104,7 @@ impl<'a> Asked<'a> {
         }
         Ok(Way {
             locals: vec![in alloc; None; exists_in_heap(self.heap) as usize]?,
-            open: Vec::from_slice(alloc, self.heap.spatial())?,
+            open: Vec::from_clones(alloc, self.heap.spatial())?,
             part: Part {
                 cells: CellSet::EMPTY,
                 apart: Vec::new(alloc),
@@ -176,11 +176,11 @@ impl<'a> Asked<'a> {
     }
 
     /// The first cell whose address is known: its place, the address and its fields.
-    fn placed_cell(&self, way: &Way) -> Option<(usize, u64, Args)> {
+    fn placed_cell<'w>(&self, way: &'w Way) -> Option<(usize, u64, &'w Args)> {
         for (place, atom) in way.open.iter().enumerate() {
             if let Spatial::Cell(address, fields) = atom {
                 if let Some(value) = self.value(way, *address) {
-                    return Some((place, value, *fields));
+                    return Some((place, value, fields));
                 }
             }
         }
@@ -205,32 +205,33 @@ impl<'a> Asked<'a> {
         true
     }
 
-    fn settle_cell(&self, way: &mut Way) -> Settling {
+    fn settle_cell(&self, way: &mut Way) -> Result<Settling, OutOfMemory> {
         let Some((place, address, fields)) = self.placed_cell(way) else {
-            return Settling::Same;
+            return Ok(Settling::Same);
         };
+        let fields = fields.clone()?;
         let cell = CellSet::single(address);
         if way.part.cells.meets(cell) || !self.settle_fields(way, address, &fields) {
-            return Settling::Contradictory;
+            return Ok(Settling::Contradictory);
         }
         way.take(place, cell);
-        Settling::Changed
+        Ok(Settling::Changed)
     }
 
     /// Follows equations and cells as far as they go; whether they are not contradictory.
-    fn settle(&self, way: &mut Way) -> bool {
+    fn settle(&self, way: &mut Way) -> Result<bool, OutOfMemory> {
         for _ in 0..MOST_TURNS {
             let settling = match self.settle_equations(way) {
-                Settling::Same => self.settle_cell(way),
+                Settling::Same => self.settle_cell(way)?,
                 other => other,
             };
             match settling {
-                Settling::Contradictory => return false,
+                Settling::Contradictory => return Ok(false),
                 Settling::Same => break,
                 Settling::Changed => {}
             }
         }
-        true
+        Ok(true)
     }
 
     /// Whether no disequation is wrong.
@@ -261,15 +262,16 @@ impl<'a> Asked<'a> {
     }
 
     /// The first predicate atom whose arguments are known.
-    fn known_atom(&self, way: &Way) -> Option<Next> {
+    fn known_atom(&self, way: &Way) -> Result<Option<Next>, OutOfMemory> {
         for (place, atom) in way.open.iter().enumerate() {
-            if let Spatial::Pred(predicate, args) = *atom {
+            if let Spatial::Pred(predicate, args) = atom {
                 if self.unknown(way, args.as_slice()).is_none() {
-                    return Some(Next::Ask(place, PredicateUse { predicate, args }));
+                    let (predicate, args) = (*predicate, args.clone()?);
+                    return Ok(Some(Next::Ask(place, PredicateUse { predicate, args })));
                 }
             }
         }
-        None
+        Ok(None)
     }
 
     /// The address of the first cell that is left.
@@ -312,22 +314,22 @@ impl<'a> Asked<'a> {
     }
 
     /// Follows what is known, and what is to be done next; none where the way ends.
-    pub fn next(&self, way: &mut Way) -> Option<Next> {
-        if !self.settle(way) || !self.is_apart(way) {
-            return None;
+    pub fn next(&self, way: &mut Way) -> Result<Option<Next>, OutOfMemory> {
+        if !self.settle(way)? || !self.is_apart(way) {
+            return Ok(None);
         }
-        if let Some(next) = self.known_atom(way) {
-            return Some(next);
+        if let Some(next) = self.known_atom(way)? {
+            return Ok(Some(next));
         }
         if let Some(next) = self.address(way) {
-            return Some(next);
+            return Ok(Some(next));
         }
         if let Some(next) = self.argument(way) {
-            return Some(next);
+            return Ok(Some(next));
         }
         match self.equated(way) {
-            Some(next) => Some(next),
-            None => Some(Next::Done),
+            Some(next) => Ok(Some(next)),
+            None => Ok(Some(Next::Done)),
         }
     }
 

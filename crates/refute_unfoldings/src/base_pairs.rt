@@ -96,7 +96,7 @@ impl BasePair {
             return Ok(false);
         }
         for place in &self.cells {
-            if !unfolding.allocate(argument(args, *place), Args::from_slice(&[]))? {
+            if !unfolding.allocate(argument(args, *place), Args::from_few(&[]))? {
                 return Ok(false);
             }
         }

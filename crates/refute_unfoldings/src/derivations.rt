@@ -3,6 +3,7 @@ use crate::base_pairs::BasePair;
 use crate::choices::{Choice, Choices};
 use crate::unfolding::Unfolding;
 use crate::uses::{OpenAtom, PredicateUse};
+use cyc_basics::limits::MOST_ARGUMENTS;
 use cyc_basics::memory::OutOfMemory;
 use heap_formula::{Args, Heap, Spatial, Term};
 use pred_defs::Defs;
@@ -29,7 +30,7 @@ struct Turn {
 }
 
 /// A base pair on its way into the replay of a derivation.
-#[derive(Clone, Copy)]
+#[derive(Clone, Drop)]
 struct CaseStep {
     open: OpenAtom,
     number: Option<usize>,
@@ -48,12 +49,12 @@ pub struct Derivations<'a> {
 }
 
 /// The parameters of a predicate as variables.
-fn parameters(arity: u16) -> Args {
-    let mut terms = [Term::Nil; 8];
-    for n in 0..8 {
+fn parameters(alloc: Global, arity: u16) -> Result<Args, OutOfMemory> {
+    let mut terms = [Term::Nil; MOST_ARGUMENTS];
+    for n in 0..MOST_ARGUMENTS {
         terms[n] = Term::Univ(n as u16);
     }
-    Args::from_slice(&terms[..arity.min(8) as usize])
+    Args::from_slice(alloc, &terms[..MOST_ARGUMENTS.min(arity as usize)])
 }
 
 impl<'a> Derivations<'a> {
@@ -101,7 +102,7 @@ impl<'a> Derivations<'a> {
 impl Derivations<'_> {
     fn arity(&self, predicate: u16) -> u16 {
         match self.defs.as_slice().get(predicate as usize) {
-            Some(def) => def.arity.min(8) as u16,
+            Some(def) => def.arity.min(MOST_ARGUMENTS as u32) as u16,
             None => 0,
         }
     }
@@ -113,7 +114,7 @@ impl Derivations<'_> {
         case: u32,
     ) -> Result<Option<(Unfolding, Vec<OpenAtom>)>, OutOfMemory> {
         let arity = self.arity(predicate);
-        let args = parameters(arity);
+        let args = parameters(self.alloc, arity)?;
         let atom = PredicateUse { predicate, args };
         let Some(body) = atom.body(self.alloc, self.defs, case, arity)? else {
             return Ok(None);
@@ -240,7 +241,7 @@ impl Derivations<'_> {
         let mut open = Vec::new(self.alloc);
         let may_be = unfolding.replace(&step.open, derivation.case, &body, &mut open)?;
         for (open, number) in open.iter().zip(&derivation.numbers) {
-            let (open, number) = (*open, *number);
+            let (open, number) = (open.clone()?, *number);
             steps.push(CaseStep { open, number })?;
         }
         Ok(may_be)
@@ -255,7 +256,7 @@ impl Derivations<'_> {
     ) -> Result<Option<Unfolding>, OutOfMemory> {
         let mut steps = Vec::new(self.alloc);
         for (open, number) in atoms.iter().zip(numbers) {
-            let (open, number) = (*open, *number);
+            let (open, number) = (open.clone()?, *number);
             steps.push(CaseStep { open, number })?;
         }
         for _ in 0..MOST_STEPS {

@@ -164,7 +164,7 @@ impl<'a> Unfolder<'a> {
         for mut next in found {
             for (place, atom) in branch.open.iter().enumerate() {
                 if place != chosen {
-                    next.open.push(*atom)?;
+                    next.open.push(atom.clone()?)?;
                 }
             }
             self.branches.push(next)?;

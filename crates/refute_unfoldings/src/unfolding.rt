@@ -17,7 +17,7 @@ pub const MOST_CELLS: usize = 64;
 const MOST_VALUES: u32 = 20_000;
 
 /// A cell: its address and its fields.
-#[derive(Clone, Copy)]
+#[derive(Clone, Drop)]
 pub struct SymbolicCell {
     pub address: Term,
     pub fields: Args,
@@ -255,13 +255,14 @@ impl Unfolding {
         open: &mut Vec<OpenAtom>,
     ) -> Result<bool, OutOfMemory> {
         for atom in atoms {
-            match *atom {
+            match atom {
                 Spatial::Cell(address, fields) => {
-                    if !self.allocate(address, fields)? {
+                    if !self.allocate(*address, fields.clone()?)? {
                         return Ok(false);
                     }
                 }
                 Spatial::Pred(predicate, args) => {
+                    let (predicate, args) = (*predicate, args.clone()?);
                     self.open(PredicateUse { predicate, args }, open)?
                 }
             }

@@ -8,14 +8,14 @@ use std::alloc::Global;
 const MOST_VARIABLES: u32 = 65_536;
 
 /// A predicate atom: the predicate and its arguments, which are nil or universal variables.
-#[derive(Clone, Copy)]
+#[derive(Clone, Drop)]
 pub struct PredicateUse {
     pub predicate: u16,
     pub args: Args,
 }
 
 /// A predicate atom of an unfolding, and its number among those that came into it.
-#[derive(Clone, Copy)]
+#[derive(Clone, Drop)]
 pub struct OpenAtom {
     pub atom: PredicateUse,
     pub(crate) number: usize,

@@ -13,13 +13,13 @@ use std::alloc::Global;
 fn call(predicate: u16, argument: Term) -> Spatial
     ensures { result ≡ Pred predicate (argument ∷ []) }
 {
-    Spatial::Pred(predicate, Args::from_slice(&[argument]))
+    Spatial::Pred(predicate, Args::from_few(&[argument]))
 }
 
 fn cell(address: Term, field: Term) -> Spatial
     ensures { result ≡ Cell address (field ∷ []) }
 {
-    Spatial::Cell(address, Args::from_slice(&[field]))
+    Spatial::Cell(address, Args::from_few(&[field]))
 }
 
 pub fn emp(alloc: Global) -> Heap

@@ -18,7 +18,7 @@ pub enum Share {
 }
 
 /// An atom, and which base pairs it may take; a cell has one.
-#[derive(Clone, Copy)]
+#[derive(Drop)]
 pub struct Part {
     pub atom: Spatial,
     pub share: Share,
@@ -48,9 +48,9 @@ fn shared(pairs: &[Known], share: Share) -> &[Known]
 pub fn pairs_of_part<'a>(table: &'a Table, cell: &'a [Known], part: &Part) -> &'a [Known]
     ensures { result.now ≡ part_pairs table.now cell.now part.now }
 {
-    match part.atom {
+    match &part.atom {
         Spatial::Cell(_, _) => cell,
-        Spatial::Pred(q, _) => shared(table.pairs(q), part.share),
+        Spatial::Pred(q, _) => shared(table.pairs(*q), part.share),
     }
 }
 
@@ -61,7 +61,7 @@ pub fn whole_parts(alloc: Global, atoms: &[Spatial]) -> Result<Vec<Part>, OutOfM
     let mut parts = Vec::new(alloc);
     for atom in atoms {
         parts.push(Part {
-            atom: *atom,
+            atom: atom.clone()?,
             share: Share::All,
         })?;
     }
@@ -80,7 +80,7 @@ pub fn new_parts(
     let mut parts = Vec::new(alloc);
     for (place, atom) in atoms.iter().enumerate() {
         parts.push(Part {
-            atom: *atom,
+            atom: atom.clone()?,
             share: news.share(place, new_at),
         })?;
     }

@@ -4,14 +4,27 @@ ghost use Rattle.script_formulas.specs.Formulas as formulas;
 ghost use Rattle.script_formulas.specs.Formulas.{formula_of};
 
 use heap_formula::{Args, OutOfMemory, Pure, Term};
-use std::alloc::Global;
+use std::alloc::{AllocError, Global};
 
 /// An atom that speaks of the heap: it is exactly one cell, with its address, the number of its constructor and the
 /// fields; or a predicate holds of it, with its number and the arguments.
-#[derive(Clone, Copy)]
+#[derive(Drop)]
 pub enum ScriptAtom {
     Cell(Term, u16, Args),
     Call(u16, Args),
+}
+
+impl Clone for ScriptAtom {
+    ghost is_clone = { λ atom copy. copy ≡ atom };
+
+    fn clone(&self) -> Result<ScriptAtom, AllocError> {
+        match self {
+            ScriptAtom::Cell(t, constructor, fields) => {
+                Ok(ScriptAtom::Cell(*t, *constructor, fields.clone()?))
+            }
+            ScriptAtom::Call(predicate, args) => Ok(ScriptAtom::Call(*predicate, args.clone()?)),
+        }
+    }
 }
 
 /// A formula of a script. Terms are those of symbolic heaps: `Nil` is the nil of the sort that its place has; `Univ(n)`

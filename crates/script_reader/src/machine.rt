@@ -329,7 +329,7 @@ impl<'a> Machine<'a> {
         if terms.len() > MOST_TERMS {
             return over(ScriptLimit::Arguments, at);
         }
-        let atom = ScriptAtom::Call(number, Args::from_slice(&terms));
+        let atom = ScriptAtom::Call(number, Args::from_few(&terms));
         self.done(Value::spatial(ScriptFormula::Atom(atom)))
     }
 
@@ -396,7 +396,7 @@ impl<'a> Machine<'a> {
         if fields.len() > MOST_TERMS {
             return over(ScriptLimit::Arguments, at);
         }
-        Ok(ScriptAtom::Cell(address, cell, Args::from_slice(&fields)))
+        Ok(ScriptAtom::Cell(address, cell, Args::from_few(&fields)))
     }
 
     /// Fields of these sorts.

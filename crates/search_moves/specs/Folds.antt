@@ -79,9 +79,10 @@ abbrev pub are_settled : List Spatial → Pure → Bool
 are_settled xs (Eq t u) = is_settled xs t && is_settled xs u
 are_settled xs (Neq t u) = is_settled xs t && is_settled xs u
 
--- the parameters of a predicate; there are at most eight
+-- the parameters of a predicate
 abbrev pub parameters : ℕ → List Term
-parameters arity = take arity (Univ 0 ∷ Univ 1 ∷ Univ 2 ∷ Univ 3 ∷ Univ 4 ∷ Univ 5 ∷ Univ 6 ∷ Univ 7 ∷ [])
+parameters zero = []
+parameters (suc n) = parameters n ++ Univ n ∷ []
 
 -- the spatial atoms have a cell, and name every parameter and each local of the case
 abbrev pub can_fold : ℕ → SymbolicHeap → Bool

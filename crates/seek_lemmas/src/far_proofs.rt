@@ -32,11 +32,11 @@ fn induction_atom(work: &Work<'_>) -> Result<Spatial, Stop> {
 }
 
 /// The other atom of the first node, if there is one.
-fn other_atom(work: &Work<'_>) -> Option<Spatial> {
+fn other_atom(work: &Work<'_>) -> Result<Option<Spatial>, Stop> {
     match work.left(0).spatial() {
-        [first, Spatial::Pred(_, _)] => Some(*first),
-        [_, second] => Some(*second),
-        _ => None,
+        [first, Spatial::Pred(_, _)] => Ok(Some(first.clone()?)),
+        [_, second] => Ok(Some(second.clone()?)),
+        _ => Ok(None),
     }
 }
 
@@ -71,7 +71,7 @@ fn separate(work: &mut Work<'_>, node: u32, t: Term, u: Term) -> Moved {
 fn come_back(work: &mut Work<'_>, node: u32, place: u32) -> Moved {
     let alloc = work.setting.alloc;
     let mut places = vec![in alloc; place]?;
-    if let Some(other) = other_atom(work) {
+    if let Some(other) = other_atom(work)? {
         match free_place(work.left(node).spatial(), &[], &other) {
             Some(other) => places.push(other)?,
             None => return Err(Stop::NoWay),
@@ -97,7 +97,7 @@ fn by_atom(work: &mut Work<'_>, node: u32, place: u32) -> Moved {
         (Spatial::Pred(p, _), Spatial::Pred(q, _)) => *p == *q,
         _ => false,
     };
-    if !same || other_atom(work) == Some(atom) {
+    if !same || other_atom(work)?.as_ref() == Some(&atom) {
         return Err(Stop::NoWay);
     }
     match wanted(work, &atom)? {

@@ -108,7 +108,7 @@ fn unmatched(work: &Work<'_>, node: u32) -> Result<Option<Wanted>, Stop> {
     for (place, atom) in work.right(node).spatial().iter().enumerate() {
         match free_place(left.spatial(), &used, atom) {
             Some(other) => used.push(other)?,
-            None if open.is_none() => open = Some((number_of(place), *atom)),
+            None if open.is_none() => open = Some((number_of(place), atom.clone()?)),
             None => {}
         }
     }

@@ -49,7 +49,7 @@ fn field_for(wanted: &Spatial, cell: &Spatial) -> Result<Option<Rule>, Stop> {
 
 fn right_atom(work: &Work<'_>, node: u32, place: u32) -> Result<Spatial, Stop> {
     match work.right(node).spatial_at(place) {
-        Some(atom) => Ok(*atom),
+        Some(atom) => Ok(atom.clone()?),
         None => Err(Stop::NoWay),
     }
 }
@@ -140,7 +140,7 @@ fn frame_at(work: &mut Work<'_>, node: u32, place: u32) -> Result<Option<u32>, S
     if !is_universal_spatial(wanted) {
         return Ok(None);
     }
-    let wanted = *wanted;
+    let wanted = wanted.clone()?;
     match free_place(work.left(node).spatial(), &[], &wanted) {
         Some(other) => Ok(Some(work.one(node, &Rule::Frame(other, place))?)),
         None => Ok(None),

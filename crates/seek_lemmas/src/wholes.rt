@@ -113,7 +113,7 @@ fn rootless(work: &Work<'_>, node: u32) -> Result<Vec<Spatial>, Stop> {
     let right = work.right(node);
     for atom in work.left(node).spatial() {
         if work.shapes.root(atom).is_none() && !right.spatial().contains(atom) {
-            found.push(*atom)?;
+            found.push(atom.clone()?)?;
         }
     }
     Ok(found)
@@ -127,7 +127,7 @@ fn convert_one(work: &mut Work<'_>, node: u32, atom: &Spatial) -> Result<u32, St
         return Ok(node);
     };
     let kept = work.tree.len();
-    let outcome = convert(work, node, atom, &Spatial::Pred(other, *args));
+    let outcome = convert(work, node, atom, &Spatial::Pred(other, args.clone()?));
     match work.or_undo(node, kept, outcome)? {
         Some(next) => Ok(next),
         None => Ok(node),

@@ -1,4 +1,5 @@
 // What a join needs beside its parts.
+use cyc_basics::limits::MOST_ARGUMENTS;
 use heap_formula::{Pure, Spatial, Term};
 use seek_shapes::{args_of, copies_at, differ, free_place};
 use seek_trees::{Stop, Work};
@@ -117,7 +118,7 @@ fn generalised(work: &Work<'_>, same: &SamePredicate<'_>) -> Result<GeneralJoin,
     let mut first = Vec::from_slice(alloc, same.first)?;
     let mut made = Vec::from_slice(alloc, same.made)?;
     let mut names = Vec::new(alloc);
-    for place in 0..8u16 {
+    for place in 0..MOST_ARGUMENTS as u16 {
         let at = place as usize;
         if let (Some(t), Some(u)) = (first.get_mut(at), made.get_mut(at)) {
             if *t == *u && moves(work, same.predicate, place) {
@@ -129,8 +130,8 @@ fn generalised(work: &Work<'_>, same: &SamePredicate<'_>) -> Result<GeneralJoin,
         }
     }
     Ok(GeneralJoin {
-        first: Spatial::Pred(same.predicate, args_of(&first)),
-        made: Spatial::Pred(same.predicate, args_of(&made)),
+        first: Spatial::Pred(same.predicate, args_of(alloc, &first)?),
+        made: Spatial::Pred(same.predicate, args_of(alloc, &made)?),
         names,
     })
 }
@@ -148,8 +149,8 @@ pub fn general_join(work: &Work<'_>, first: &Spatial, made: &Spatial) -> Result<
             Ok(general)
         }
         _ => Ok(GeneralJoin {
-            first: *first,
-            made: *made,
+            first: first.clone()?,
+            made: made.clone()?,
             names: Vec::new(work.setting.alloc),
         }),
     }
@@ -174,7 +175,7 @@ pub fn with_guard(
     atoms: &[Spatial],
     guard: &Guard,
 ) -> Result<Vec<Spatial>, Stop> {
-    let mut all = Vec::from_slice(work.setting.alloc, atoms)?;
+    let mut all = Vec::from_clones(work.setting.alloc, atoms)?;
     let mut more = copies_at(work.setting.alloc, work.left(node).spatial(), &guard.places)?;
     all.append(&mut more)?;
     Ok(all)

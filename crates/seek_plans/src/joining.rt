@@ -54,8 +54,8 @@ fn convert_under(
     }
     let mut instance = work.lemma(&pure, &[general], &right, HARD)?;
     instance.put(&argument_names(work, atom, &general)?);
-    let places = own_places(work, node, &[*atom])?;
-    let formula = heap_with(work, &[*made])?;
+    let places = own_places(work, node, &[atom.clone()?])?;
+    let formula = heap_with(work, &[made.clone()?])?;
     work.cut_by(node, &places, formula, instance)
 }
 
@@ -124,7 +124,7 @@ fn join_under(
     let right = heap_with(work, &right)?;
     let mut instance = work.lemma(&pure, &left, &right, EASY)?;
     instance.put(&general.names);
-    let made = with_guard(work, node, &[join.made], guard)?;
+    let made = with_guard(work, node, &[join.made.clone()?], guard)?;
     let formula = heap_with(work, &made)?;
     let mut places = Vec::from_slice(work.setting.alloc, own)?;
     places.extend_from_slice(&guard.places)?;

@@ -1,5 +1,5 @@
 // Questions to lemmas that a plan needs answered.
-use heap_formula::{Heap, Pure, Spatial, Term};
+use heap_formula::{Args, Heap, Pure, Spatial, Term};
 use seek_shapes::args_of;
 use seek_trees::{Effort, Stop, Work};
 
@@ -20,7 +20,7 @@ const FIELD: u16 = 63_000;
 
 /// What has to hold before a plan goes on: nothing; that an atom entails another; or that two atoms make a third,
 /// perhaps with a cell at its end.
-#[derive(Clone, Copy)]
+#[derive(Drop)]
 pub enum Need {
     Nothing,
     Becomes(Spatial, Spatial),
@@ -49,7 +49,7 @@ pub fn general_atom(
         terms.push(Term::Univ(name))?;
         name = name.saturating_add(1);
     }
-    Ok(Spatial::Pred(predicate, args_of(&terms)))
+    Ok(Spatial::Pred(predicate, args_of(work.setting.alloc, &terms)?))
 }
 
 /// Whether an atom of one predicate is one of the other with the same arguments, perhaps where it has a cell.
@@ -81,8 +81,8 @@ fn becomes(work: &mut Work<'_>, atom: &Spatial, made: &Spatial) -> Result<bool, 
             };
         }
     }
-    let right = heap_with(work, &[*made])?;
-    work.has_lemma(&[], &[*atom], &right, HARD)
+    let right = heap_with(work, &[made.clone()?])?;
+    work.has_lemma(&[], &[atom.clone()?], &right, HARD)
 }
 
 fn are_of_one(first: &Spatial, second: &Spatial, third: &Spatial) -> bool {
@@ -93,7 +93,7 @@ fn are_of_one(first: &Spatial, second: &Spatial, third: &Spatial) -> bool {
 }
 
 fn guard_at(end: Term) -> Spatial {
-    Spatial::Cell(end, args_of(&[Term::Univ(FIELD)]))
+    Spatial::Cell(end, Args::from_few(&[Term::Univ(FIELD)]))
 }
 
 fn joins(
@@ -105,15 +105,15 @@ fn joins(
     if are_of_one(first, second, made) {
         return Ok(true);
     }
-    let right = heap_with(work, &[*made])?;
-    if work.has_lemma(&[], &[*first, *second], &right, HARD)? {
+    let right = heap_with(work, &[made.clone()?])?;
+    if work.has_lemma(&[], &[first.clone()?, second.clone()?], &right, HARD)? {
         return Ok(true);
     }
     match work.shapes.target(made)? {
         None | Some(Term::Nil) => Ok(false),
         Some(end) => {
-            let right = heap_with(work, &[*made, guard_at(end)])?;
-            let left = heap_with(work, &[*first, *second, guard_at(end)])?;
+            let right = heap_with(work, &[made.clone()?, guard_at(end)])?;
+            let left = heap_with(work, &[first.clone()?, second.clone()?, guard_at(end)])?;
             work.has_lemma(&[], left.spatial(), &right, HARD)
         }
     }

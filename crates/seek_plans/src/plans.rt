@@ -54,7 +54,7 @@ impl Draught {
     ) -> Result<(), Stop> {
         self.items.push(Item::Join(Join { parts, made }))?;
         for atom in wanted {
-            self.items.push(Item::Make(*atom))?;
+            self.items.push(Item::Make(atom.clone()?))?;
         }
         Ok(())
     }
@@ -85,7 +85,7 @@ fn first(work: &Work<'_>, node: u32) -> Result<Draught, Stop> {
     for atom in work.right(node).spatial() {
         match free_place(left, &draught.used, atom) {
             Some(place) => draught.used.push(place)?,
-            None => draught.items.push(Item::Make(*atom))?,
+            None => draught.items.push(Item::Make(atom.clone()?))?,
         }
     }
     draught.items.reverse();

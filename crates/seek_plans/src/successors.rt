@@ -1,7 +1,7 @@
 // The ways to make an atom of a plan.
 use crate::needs::Need;
 use crate::plans::Draught;
-use heap_formula::{Args, Heap, Pure, Spatial, Term};
+use heap_formula::{Args, Heap, Pure, Spatial, Term, push_copies};
 use rule_table::{is_universal_pure, is_universal_spatial};
 use seek_shapes::{args_of, arguments, free_place, is_false_equation, number_of, value_in};
 use seek_trees::{Stop, Work};
@@ -17,9 +17,9 @@ struct Aimed<'a> {
 
 /// An unused atom of the left side at that root, with its place.
 #[derive(Clone, Copy)]
-struct Beginning {
+struct Beginning<'a> {
     place: u32,
-    atom: Spatial,
+    atom: &'a Spatial,
 }
 
 /// The plans that go on from one, the first to be tried first.
@@ -94,7 +94,7 @@ impl Filled<'_> {
         for term in arguments(atom) {
             terms.push(self.term(*term))?;
         }
-        let args = args_of(&terms);
+        let args = args_of(work.setting.alloc, &terms)?;
         match atom {
             Spatial::Cell(address, _) => Ok(Spatial::Cell(self.term(*address), args)),
             Spatial::Pred(predicate, _) => Ok(Spatial::Pred(*predicate, args)),
@@ -149,12 +149,12 @@ fn ordered(work: &Work<'_>, rest: &[Spatial], predicate: u16) -> Result<Vec<Spat
     let mut order = Vec::new(work.setting.alloc);
     for atom in rest {
         if matches!(atom, Spatial::Pred(other, _) if *other == predicate) {
-            order.push(*atom)?;
+            order.push(atom.clone()?)?;
         }
     }
     for atom in rest {
         if !order.contains(atom) {
-            order.push(*atom)?;
+            order.push(atom.clone()?)?;
         }
     }
     Ok(order)
@@ -203,14 +203,14 @@ fn moved(work: &Work<'_>, predicate: u16, args: &Args, aimed: Aimed<'_>) -> Resu
             *target = *term;
         }
     }
-    Ok(args_of(&terms))
+    Ok(args_of(work.setting.alloc, &terms)?)
 }
 
 fn is_aimed(args: &Args, aimed: Aimed<'_>) -> bool {
     *args == *aimed.args
 }
 
-impl Ways<'_, '_> {
+impl<'a> Ways<'a, '_> {
     /// Adds a plan that uses these places, under a need, in which the parts become the atom; those that are wanted are
     /// made before.
     fn push(
@@ -222,14 +222,17 @@ impl Ways<'_, '_> {
         wanted: &[Spatial],
     ) -> Result<(), Stop> {
         let mut next = self.draught.using(places, need)?;
-        next.push_join(parts, *made, wanted)?;
+        next.push_join(parts, made.clone()?, wanted)?;
         self.later.push(next)?;
         Ok(())
     }
 
     /// A list of these atoms.
-    fn parts(&self, atoms: &[Spatial]) -> Result<Vec<Spatial>, Stop> {
-        let parts = Vec::from_slice(self.work.setting.alloc, atoms)?;
+    fn parts(&self, atoms: &[&Spatial]) -> Result<Vec<Spatial>, Stop> {
+        let mut parts = Vec::with_capacity(self.work.setting.alloc, atoms.len())?;
+        for atom in atoms {
+            parts.push((*atom).clone()?)?;
+        }
         Ok(parts)
     }
 
@@ -260,38 +263,43 @@ impl Ways<'_, '_> {
     /// An atom of a predicate without a root by each of those that have one.
     fn push_rootless(&mut self, wanted: &Spatial, predicate: u16, args: &Args) -> Result<(), Stop> {
         for other in self.others(args.len(), predicate)? {
-            self.push_through(&Spatial::Pred(other, *args), wanted)?;
+            self.push_through(&Spatial::Pred(other, args.clone()?), wanted)?;
         }
         Ok(())
     }
 
     /// An atom that is to be made, and then to become another.
     fn push_through(&mut self, atom: &Spatial, wanted: &Spatial) -> Result<(), Stop> {
-        let parts = self.parts(&[*atom])?;
-        let need = Need::Becomes(*atom, *wanted);
-        self.push(&[], need, parts, wanted, &[*atom])
+        let parts = self.parts(&[atom])?;
+        let need = Need::Becomes(atom.clone()?, wanted.clone()?);
+        self.push(&[], need, parts, wanted, &[atom.clone()?])
     }
 
     /// An atom of another predicate that leads the same way and entails it.
-    fn push_conversion(&mut self, from: Beginning, aimed: Aimed<'_>) -> Result<(), Stop> {
+    fn push_conversion(&mut self, from: Beginning<'_>, aimed: Aimed<'_>) -> Result<(), Stop> {
         let is_other =
-            matches!(from.atom, Spatial::Pred(predicate, _) if predicate != aimed.predicate);
+            matches!(from.atom, Spatial::Pred(predicate, _) if *predicate != aimed.predicate);
         let shapes = &self.work.shapes;
-        if !is_other || shapes.target(&from.atom)? != shapes.target(aimed.atom)? {
+        if !is_other || shapes.target(from.atom)? != shapes.target(aimed.atom)? {
             return Ok(());
         }
         let parts = self.parts(&[from.atom])?;
-        let need = Need::Becomes(from.atom, *aimed.atom);
+        let need = Need::Becomes(from.atom.clone()?, aimed.atom.clone()?);
         self.push(&[from.place], need, parts, aimed.atom, &[])
     }
 
     /// A cell and the rest of a case.
-    fn push_case(&mut self, cell: Beginning, aimed: Aimed<'_>, case: &Heap) -> Result<(), Stop> {
-        let Some(rest) = rest_of(self.work, &cell.atom, aimed, case)? else {
+    fn push_case(
+        &mut self,
+        cell: Beginning<'_>,
+        aimed: Aimed<'_>,
+        case: &Heap,
+    ) -> Result<(), Stop> {
+        let Some(rest) = rest_of(self.work, cell.atom, aimed, case)? else {
             return Ok(());
         };
         let mut parts = self.parts(&[cell.atom])?;
-        parts.extend_from_slice(&rest)?;
+        push_copies(&mut parts, &rest)?;
         let order = ordered(self.work, &rest, aimed.predicate)?;
         self.push(&[cell.place], Need::Nothing, parts, aimed.atom, &order)
     }
@@ -299,7 +307,7 @@ impl Ways<'_, '_> {
     /// A segment and an atom of another size that goes on from its end to where the wanted one leads.
     fn push_other_rests(
         &mut self,
-        from: Beginning,
+        from: Beginning<'_>,
         aimed: Aimed<'_>,
         start: Option<Term>,
     ) -> Result<(), Stop> {
@@ -311,8 +319,8 @@ impl Ways<'_, '_> {
                 matches!(other, Spatial::Pred(_, args) if args.len() != aimed.args.len());
             let starts = is_free && is_other && self.work.shapes.root(other) == start;
             if starts && self.work.shapes.target(other)? == target {
-                let need = Need::Joins(from.atom, *other, *aimed.atom);
-                let parts = self.parts(&[from.atom, *other])?;
+                let need = Need::Joins(from.atom.clone()?, other.clone()?, aimed.atom.clone()?);
+                let parts = self.parts(&[from.atom, other])?;
                 self.push(&[from.place, place], need, parts, aimed.atom, &[])?;
             }
         }
@@ -320,11 +328,16 @@ impl Ways<'_, '_> {
     }
 
     /// A segment and what is left of the way, as an atom of a predicate.
-    fn push_rest(&mut self, from: Beginning, aimed: Aimed<'_>, rest: &Spatial) -> Result<(), Stop> {
+    fn push_rest(
+        &mut self,
+        from: Beginning<'_>,
+        aimed: Aimed<'_>,
+        rest: &Spatial,
+    ) -> Result<(), Stop> {
         if !self.work.shapes.vanishes(rest)? {
-            let need = Need::Joins(from.atom, *rest, *aimed.atom);
-            let parts = self.parts(&[from.atom, *rest])?;
-            return self.push(&[from.place], need, parts, aimed.atom, &[*rest]);
+            let need = Need::Joins(from.atom.clone()?, rest.clone()?, aimed.atom.clone()?);
+            let parts = self.parts(&[from.atom, rest])?;
+            return self.push(&[from.place], need, parts, aimed.atom, &[rest.clone()?]);
         }
         if matches!(rest, Spatial::Pred(predicate, _) if *predicate == aimed.predicate) {
             let parts = self.parts(&[from.atom])?;
@@ -336,21 +349,21 @@ impl Ways<'_, '_> {
     /// A segment and the rest of its way: of the same predicate, then of others.
     fn push_segment(
         &mut self,
-        from: &Beginning,
+        from: &Beginning<'_>,
         aimed: Aimed<'_>,
         rest: &Args,
     ) -> Result<(), Stop> {
-        let own = Spatial::Pred(aimed.predicate, *rest);
+        let own = Spatial::Pred(aimed.predicate, rest.clone()?);
         let start = self.work.shapes.root(&own);
         self.push_other_rests(*from, aimed, start)?;
         self.push_rest(*from, aimed, &own)?;
         for other in self.others(rest.len(), aimed.predicate)? {
-            self.push_rest(*from, aimed, &Spatial::Pred(other, *rest))?;
+            self.push_rest(*from, aimed, &Spatial::Pred(other, rest.clone()?))?;
         }
         Ok(())
     }
 
-    fn push_cases(&mut self, from: &Beginning, aimed: Aimed<'_>) -> Result<(), Stop> {
+    fn push_cases(&mut self, from: &Beginning<'_>, aimed: Aimed<'_>) -> Result<(), Stop> {
         let work = self.work;
         for case in work.setting.defs.cases(aimed.predicate) {
             self.push_case(*from, aimed, case)?;
@@ -359,8 +372,8 @@ impl Ways<'_, '_> {
     }
 
     /// The ways that begin with an atom at the wanted one's root.
-    fn push_beginning(&mut self, from: &Beginning, aimed: Aimed<'_>) -> Result<(), Stop> {
-        match &from.atom {
+    fn push_beginning(&mut self, from: &Beginning<'_>, aimed: Aimed<'_>) -> Result<(), Stop> {
+        match from.atom {
             Spatial::Cell(_, _) => self.push_cases(from, aimed),
             Spatial::Pred(predicate, args) => {
                 let rest = moved(self.work, *predicate, args, aimed)?;
@@ -373,11 +386,11 @@ impl Ways<'_, '_> {
     }
 
     /// The unused atoms at a root.
-    fn beginnings(&self, root: Term) -> Result<Vec<Beginning>, Stop> {
+    fn beginnings(&self, root: Term) -> Result<Vec<Beginning<'a>>, Stop> {
         let mut found = Vec::new(self.work.setting.alloc);
         for (place, atom) in self.left.spatial().iter().enumerate() {
-            let (place, atom) = (number_of(place), *atom);
-            let is_there = self.work.shapes.root(&atom) == Some(root);
+            let place = number_of(place);
+            let is_there = self.work.shapes.root(atom) == Some(root);
             if is_there && !self.draught.used.contains(&place) {
                 found.push(Beginning { place, atom })?;
             }

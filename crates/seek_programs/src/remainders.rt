@@ -3,7 +3,7 @@ use crate::commons::Commons;
 use crate::forced::is_predicate;
 use crate::state_folds::StateFold;
 use cyc_basics::memory::OutOfMemory;
-use heap_formula::{Args, Pure, Spatial, Term};
+use heap_formula::{Args, Heap, Pure, Spatial, Term};
 use seek_engine::{args_of, arguments, is_alike};
 use std::alloc::Global;
 
@@ -99,13 +99,14 @@ impl General {
         ts: &[Term],
         us: &[Term],
     ) -> Result<Args, OutOfMemory> {
-        let mut terms = [Term::Nil; 8];
-        for (i, slot) in terms.iter_mut().enumerate() {
-            if let (Some(t), Some(u)) = (ts.get(i), us.get(i)) {
-                *slot = self.joined_term(commons, *t, *u)?;
+        let mut terms = Vec::with_capacity(commons.alloc, ts.len())?;
+        for (i, t) in ts.iter().enumerate() {
+            match us.get(i) {
+                Some(u) => terms.push(self.joined_term(commons, *t, *u)?)?,
+                None => terms.push(Term::Nil)?,
             }
         }
-        Ok(args_of(&terms[..ts.len().min(8)]))
+        args_of(commons.alloc, &terms)
     }
 
     /// One atom for two of one kind.
@@ -125,7 +126,7 @@ impl General {
                 let args = self.joined_args(commons, ts.as_slice(), us.as_slice())?;
                 Ok(Spatial::Pred(*p, args))
             }
-            _ => Ok(*x),
+            _ => Ok(x.clone()?),
         }
     }
 
@@ -156,11 +157,17 @@ impl General {
         }
     }
 
-    fn find(&self, commons: &Commons<'_>, x: &Spatial, is_whole: bool) -> Option<(u32, Spatial)> {
-        for (k, y) in commons.second.spatial().iter().enumerate() {
+    fn find<'c>(
+        &self,
+        commons: &Commons<'c>,
+        x: &Spatial,
+        is_whole: bool,
+    ) -> Option<(u32, &'c Spatial)> {
+        let second: &'c Heap = commons.second;
+        for (k, y) in second.spatial().iter().enumerate() {
             let k = k as u32;
             if !self.used.contains(&k) && self.fits(commons, x, y, is_whole) {
-                return Some((k, *y));
+                return Some((k, y));
             }
         }
         None
@@ -179,7 +186,7 @@ impl General {
             return Ok(false);
         };
         self.used.push(k)?;
-        let joined = self.joined(commons, x, &y)?;
+        let joined = self.joined(commons, x, y)?;
         if !is_whole || joined != *x {
             self.cut.push(i)?;
             self.by.push(joined)?;

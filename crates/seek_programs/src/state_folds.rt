@@ -52,23 +52,30 @@ fn count_of_tuples(count: usize, arity: u32) -> u32 {
 
 /// The predicate's atom with the tuple that has this number, in the terms of the first state and in those of the
 /// second.
-fn atoms_of(pairs: &[(Term, Term)], predicate: u16, arity: u32, number: u32) -> (Spatial, Spatial) {
-    let mut first = [Term::Nil; 8];
-    let mut second = [Term::Nil; 8];
-    let arity = arity.min(8) as usize;
+fn atoms_of(
+    alloc: Global,
+    pairs: &[(Term, Term)],
+    predicate: u16,
+    arity: u32,
+    number: u32,
+) -> Result<(Spatial, Spatial), OutOfMemory> {
+    let mut first = Vec::new(alloc);
+    let mut second = Vec::new(alloc);
     let mut rest = number as usize;
     let count = pairs.len().max(1);
-    for i in 0..arity {
-        if let Some((t, u)) = pairs.get(rest % count) {
-            first[i] = *t;
-            second[i] = *u;
-        }
+    for _ in 0..arity {
+        let (t, u) = pairs
+            .get(rest % count)
+            .copied()
+            .unwrap_or((Term::Nil, Term::Nil));
+        first.push(t)?;
+        second.push(u)?;
         rest = rest / count;
     }
-    (
-        Spatial::Pred(predicate, args_of(&first[..arity])),
-        Spatial::Pred(predicate, args_of(&second[..arity])),
-    )
+    Ok((
+        Spatial::Pred(predicate, args_of(alloc, &first)?),
+        Spatial::Pred(predicate, args_of(alloc, &second)?),
+    ))
 }
 
 fn is_within(part: &[u32], other: &[u32]) -> bool {
@@ -125,7 +132,9 @@ impl Folding<'_, '_> {
         if !is_new(commons, part, arguments(atom)) {
             return Ok(false);
         }
-        self.fitting.fits(self.entailments, commons.second, part, Atom::Spatial(*atom))
+        let atom = Atom::Spatial(atom.clone()?);
+        self.fitting
+            .fits(self.entailments, commons.second, part, &atom)
     }
 
     /// The smallest parts of the second state that entail the atom.
@@ -142,11 +151,11 @@ impl Folding<'_, '_> {
     /// The first part of the first state that entails the atom.
     fn part_for_first(&mut self, atom: &Spatial) -> Result<Option<Places>, OutOfMemory> {
         let first = self.commons.first;
+        let atom = Atom::Spatial(atom.clone()?);
         for part in self.of_first {
-            let atom = Atom::Spatial(*atom);
             if self
                 .fitting
-                .fits(self.entailments, first, part.as_slice(), atom)?
+                .fits(self.entailments, first, part.as_slice(), &atom)?
             {
                 return Ok(Some(*part));
             }
@@ -185,8 +194,8 @@ impl Folding<'_, '_> {
         for of_second in &parts {
             if !self.is_idle(of_first.as_slice(), of_second.as_slice()) {
                 folds.push(StateFold {
-                    first,
-                    second,
+                    first: first.clone()?,
+                    second: second.clone()?,
                     of_first,
                     of_second: *of_second,
                 })?;
@@ -207,7 +216,7 @@ impl Folding<'_, '_> {
             return Ok(());
         }
         for number in 0..total {
-            let (first, second) = atoms_of(pairs, predicate, arity, number);
+            let (first, second) = atoms_of(self.commons.alloc, pairs, predicate, arity, number)?;
             self.push_fold(folds, first, second)?;
         }
         Ok(())

@@ -1,5 +1,6 @@
 // Terms of spatial atoms.
 use crate::heaps::number_of;
+use cyc_basics::limits::MOST_ARGUMENTS;
 use cyc_basics::memory::OutOfMemory;
 use heap_formula::{Args, Heap, Pure, Spatial, Term};
 use std::alloc::Global;
@@ -106,12 +107,12 @@ pub fn cell_place(atoms: &[Spatial], term: Term) -> Option<u32> {
     None
 }
 
-/// The first eight of the terms.
-pub fn args_of(terms: &[Term]) -> Args {
-    if terms.len() > 8 {
-        Args::from_slice(&terms[..8])
+/// The terms, as far as a list has room for them.
+pub fn args_of(alloc: Global, terms: &[Term]) -> Result<Args, OutOfMemory> {
+    if terms.len() > MOST_ARGUMENTS {
+        Args::from_slice(alloc, &terms[..MOST_ARGUMENTS])
     } else {
-        Args::from_slice(terms)
+        Args::from_slice(alloc, terms)
     }
 }
 

@@ -98,7 +98,7 @@ impl Candidates<'_> {
         term: Term,
     ) -> Result<bool, OutOfMemory> {
         let Spatial::Pred(predicate, args) = atom else {
-            return Ok(has_cell_in(classes, &[*atom], term));
+            return Ok(has_cell_in(classes, &[atom.clone()?], term));
         };
         let Some(shape) = shape_in(self.shapes, *predicate) else {
             return Ok(false);

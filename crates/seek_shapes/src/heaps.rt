@@ -68,7 +68,7 @@ pub fn value_in(args: &[Term], term: Term) -> Term {
 
 /// A case with the arguments in place of its parameters, and universal variables that nothing else has as its locals.
 pub fn body_of(alloc: Global, case: &Heap, args: &Args) -> Result<Heap, OutOfMemory> {
-    changed_heap(alloc, &Change::Left(*args, FRESH), case)
+    changed_heap(alloc, &Change::Left(args.clone()?, FRESH), case)
 }
 
 /// The atoms at these places.
@@ -80,7 +80,7 @@ pub fn copies_at(
     let mut copies = Vec::new(alloc);
     for place in places {
         if let Some(atom) = atoms.get(*place as usize) {
-            copies.push(*atom)?;
+            copies.push(atom.clone()?)?;
         }
     }
     Ok(copies)

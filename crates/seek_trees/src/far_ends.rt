@@ -82,7 +82,7 @@ impl Work<'_> {
             let is_address = place == Some(number) || is_alone && *argument == term;
             terms.push(general.name(*argument, is_address)?)?;
         }
-        let args = args_of(&terms);
+        let args = args_of(self.setting.alloc, &terms)?;
         match atom {
             Spatial::Cell(address, _) => Ok(Spatial::Cell(general.name(*address, true)?, args)),
             Spatial::Pred(predicate, _) => Ok(Spatial::Pred(*predicate, args)),

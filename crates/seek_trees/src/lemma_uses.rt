@@ -40,7 +40,7 @@ impl Work<'_> {
     fn entailment(&self, pure: &[Pure], left: &[Spatial], right: &Heap) -> Result<Judgement, Stop> {
         let alloc = self.setting.alloc;
         let pure = Vec::from_slice(alloc, pure)?;
-        let spatial = Vec::from_slice(alloc, left)?;
+        let spatial = Vec::from_clones(alloc, left)?;
         match heap_of(pure, spatial) {
             Some(left) => {
                 let right = Disjuncts::single(alloc, right.clone()?)?;

@@ -193,7 +193,7 @@ impl Work<'_> {
     /// The atom at a place of a node's antecedent.
     pub fn atom(&self, node: u32, place: u32) -> Result<Spatial, Stop> {
         match self.left(node).spatial_at(place) {
-            Some(atom) => Ok(*atom),
+            Some(atom) => Ok(atom.clone()?),
             None => Err(Stop::NoWay),
         }
     }

@@ -95,7 +95,7 @@ impl Case {
         ensures { IfOk result (λ c. c ≡ self.now) }
     {
         let pure = Vec::from_slice(alloc, &self.pure)?;
-        let atoms = Vec::from_slice(alloc, &self.atoms)?;
+        let atoms = Vec::from_clones(alloc, &self.atoms)?;
         Ok(Case::from_parts(self.quantified, self.any_heap, pure, atoms))
     }
 

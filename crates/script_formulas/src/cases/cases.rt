@@ -39,7 +39,7 @@ pub fn cases_of(alloc: Global, depth: u16, formula: &ScriptFormula) -> Result<Ve
         ScriptFormula::False => Ok(Vec::new(alloc)),
         ScriptFormula::Empty => single(alloc, Case::empty(alloc)),
         ScriptFormula::Pure(atom) => single(alloc, Case::of_pure(alloc, *atom)?),
-        ScriptFormula::Atom(atom) => single(alloc, Case::of_atom(alloc, *atom)?),
+        ScriptFormula::Atom(atom) => single(alloc, Case::of_atom(alloc, atom.clone()?)?),
         ScriptFormula::Not(f) => literals_of(alloc, false, depth, f),
         ScriptFormula::And(f, g) => {
             let first = cases_of(alloc, depth, f)?;

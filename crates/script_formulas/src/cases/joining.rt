@@ -60,10 +60,10 @@ fn joined(alloc: Global, way: Way, depth: u16, a: &Case, b: &Case) -> Result<Cas
         return Err(Refused::Unsupported(unsupported));
     }
     let mut pure = Vec::from_slice(alloc, a.pure())?;
-    let mut atoms = Vec::from_slice(alloc, a.atoms())?;
+    let mut atoms = Vec::from_clones(alloc, a.atoms())?;
     let by = a.quantified();
     push_pures(&mut pure, b.pure(), depth, by)?;
-    push_atoms(&mut atoms, b.atoms(), depth, by)?;
+    push_atoms(alloc, &mut atoms, b.atoms(), depth, by)?;
     Ok(Case::from_parts(
         by + b.quantified(),
         a.any_heap() && b.any_heap(),

@@ -1,10 +1,12 @@
 // Quantified variables of a case make room for those of another.
-ghost use Rattle.std.specs.Prelude.{◌≡◌, ◌≤◌, map, length, OnOk, ◌++◌};
+ghost use Rattle.std.specs.Prelude.{◌≡◌, ◌≤◌, map, length, IfOk, OnOk, ◌++◌};
 ghost use Rattle.heap_formula.specs.Substitution.{in_pure};
 ghost use Rattle.script_formulas.specs.Shifting.{shift_term, in_atom};
 
 use crate::cases::refused::Refused;
-use crate::{Args, Pure, ScriptAtom, Term};
+use crate::{Args, OutOfMemory, Pure, ScriptAtom, Term};
+use cyc_basics::limits::MOST_ARGUMENTS;
+use std::alloc::Global;
 
 /// The term with variables from `depth` on raised by so much, as far as numbers go.
 pub fn shifted_term(term: Term, depth: u16, by: u16) -> Term
@@ -16,15 +18,15 @@ pub fn shifted_term(term: Term, depth: u16, by: u16) -> Term
     }
 }
 
-fn shifted_args(args: &Args, depth: u16, by: u16) -> Args
-    ensures { result ≡ map (shift_term depth by) args.now }
+fn shifted_args(alloc: Global, args: &Args, depth: u16, by: u16) -> Result<Args, OutOfMemory>
+    ensures { IfOk result (λ ts. ts ≡ map (shift_term depth by) args.now) }
 {
-    let mut made = [Term::Nil; 8];
+    let mut made = [Term::Nil; MOST_ARGUMENTS];
     let count = args.len();
     for (i, term) in args.as_slice().iter().enumerate() {
         made[i] = shifted_term(*term, depth, by);
     }
-    Args::from_slice(&made[..count])
+    Args::from_slice(alloc, &made[..count])
 }
 
 fn shifted_pure(atom: Pure, depth: u16, by: u16) -> Pure
@@ -36,16 +38,23 @@ fn shifted_pure(atom: Pure, depth: u16, by: u16) -> Pure
     }
 }
 
-fn shifted_atom(atom: &ScriptAtom, depth: u16, by: u16) -> ScriptAtom
-    ensures { result ≡ in_atom (shift_term depth by) atom.now }
+fn shifted_atom(
+    alloc: Global,
+    atom: &ScriptAtom,
+    depth: u16,
+    by: u16,
+) -> Result<ScriptAtom, OutOfMemory>
+    ensures { IfOk result (λ x. x ≡ in_atom (shift_term depth by) atom.now) }
 {
     match atom {
-        ScriptAtom::Cell(t, constructor, args) => ScriptAtom::Cell(
+        ScriptAtom::Cell(t, constructor, args) => Ok(ScriptAtom::Cell(
             shifted_term(*t, depth, by),
             *constructor,
-            shifted_args(args, depth, by),
-        ),
-        ScriptAtom::Call(p, args) => ScriptAtom::Call(*p, shifted_args(args, depth, by)),
+            shifted_args(alloc, args, depth, by)?,
+        )),
+        ScriptAtom::Call(p, args) => {
+            Ok(ScriptAtom::Call(*p, shifted_args(alloc, args, depth, by)?))
+        }
     }
 }
 
@@ -61,6 +70,7 @@ pub fn push_pures(pures: &mut Vec<Pure>, atoms: &[Pure], depth: u16, by: u16) ->
 
 /// Appends atoms over the heap with variables from `depth` on raised by so much.
 pub fn push_atoms(
+    alloc: Global,
     heap: &mut Vec<ScriptAtom>,
     atoms: &[ScriptAtom],
     depth: u16,
@@ -69,7 +79,7 @@ pub fn push_atoms(
     ensures { OnOk result (heap.new.items ≡ heap.old.items ++ map (in_atom (shift_term depth by)) atoms.now) }
 {
     for atom in atoms {
-        heap.push(shifted_atom(atom, depth, by))?;
+        heap.push(shifted_atom(alloc, atom, depth, by)?)?;
     }
     Ok(())
 }

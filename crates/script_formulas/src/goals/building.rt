@@ -50,9 +50,9 @@ fn parameters(count: usize) -> Args {
         made[place] = Term::Univ(place as u16);
     }
     if count <= 8 {
-        Args::from_slice(&made[..count])
+        Args::from_few(&made[..count])
     } else {
-        Args::from_slice(&made)
+        Args::from_few(&made)
     }
 }
 

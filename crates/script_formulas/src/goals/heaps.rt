@@ -104,7 +104,7 @@ fn args_of(
     if made.len() != width {
         return Err(UNBOUND);
     }
-    Ok(Args::from_slice(&made))
+    Ok(Args::from_few(&made))
 }
 
 /// The arguments of a predicate.
@@ -115,7 +115,7 @@ fn arguments_of(alloc: Global, variables: Variables<'_>, terms: &Args) -> Result
     if made.len() > 8 {
         return Err(UNBOUND);
     }
-    Ok(Args::from_slice(&made))
+    Ok(Args::from_few(&made))
 }
 
 fn pure_of(variables: Variables<'_>, atom: Pure) -> Result<Pure, Refused>

@@ -81,7 +81,7 @@ fn call(alloc: Global, number: u16, constants: &[u16]) -> Result<Heap, Refused>
         return Err(Refused::Unsupported(Unsupported::Disjunction));
     }
     let mut spatial = Vec::new(alloc);
-    spatial.push(Spatial::Pred(number, Args::from_slice(&terms)))?;
+    spatial.push(Spatial::Pred(number, Args::from_few(&terms)))?;
     if spatial.len() > 32 {
         return Err(Refused::OutOfMemory);
     }

@@ -6,7 +6,7 @@ ghost use Rattle.search_moves.specs.Kinds.{is_cell as is_cell_atom};
 ghost use Rattle.search_moves.specs.Folds.{is_named_by, is_named as is_named_in, is_settled as is_settled_in};
 ghost use Rattle.search_moves.specs.Folds.{are_settled as are_settled_in, can_fold as can_fold_case};
 ghost use Rattle.search_moves.specs.Folds.{bound_term as term_under, folded as folded_by};
-ghost use Rattle.search_moves.specs.Folds.{ascending as ascending_places, case_follows as case_follows_under};
+ghost use Rattle.search_moves.specs.Folds.{parameters, ascending as ascending_places, case_follows as case_follows_under};
 ghost use Rattle.search_moves.specs.Placing.{fold_at};
 
 use crate::folds::binding::{bound_pure, bound_term};
@@ -16,18 +16,6 @@ use cyc_basics::memory::OutOfMemory;
 use heap_formula::{Args, Heap, Positions, Pure, Rule, Spatial, Term};
 use rule_table::{follows, is_among, is_universal, same_term};
 use std::alloc::Global;
-
-/// The parameters that a predicate may have.
-const PARAMETERS: [Term; 8] = [
-    Term::Univ(0),
-    Term::Univ(1),
-    Term::Univ(2),
-    Term::Univ(3),
-    Term::Univ(4),
-    Term::Univ(5),
-    Term::Univ(6),
-    Term::Univ(7),
-];
 
 /// A case to be folded: the state, the predicate, and the case.
 #[derive(Clone, Copy)]
@@ -72,11 +60,12 @@ fn is_named(atoms: &[Spatial], term: Term) -> bool
     false
 }
 
-fn are_named(atoms: &[Spatial], terms: &[Term]) -> bool
-    ensures { result ≡ list_all (is_named_in atoms.now) terms.now }
+fn are_named(atoms: &[Spatial], arity: usize) -> bool
+    requires { arity ≤ MOST_ARGUMENTS }
+    ensures { result ≡ list_all (is_named_in atoms.now) (parameters arity) }
 {
-    for term in terms {
-        if !is_named(atoms, *term) {
+    for n in 0..arity {
+        if !is_named(atoms, Term::Univ(n as u16)) {
             return false;
         }
     }
@@ -126,7 +115,7 @@ pub fn can_fold(arity: usize, case: &Heap) -> bool
     ensures { result ≡ can_fold_case arity case.now }
 {
     has_cell(case.spatial())
-        && are_named(case.spatial(), &PARAMETERS[..arity])
+        && are_named(case.spatial(), arity)
         && all_are_settled(case.spatial(), case.pure())
 }
 
@@ -154,16 +143,19 @@ fn ascending(alloc: Global, atoms: &[Spatial], places: &[u32]) -> Result<Positio
     Ok(Positions::from_vec(kept))
 }
 
-fn bound_terms(
+/// What the parameters are bound to.
+fn bound_parameters(
     alloc: Global,
     binding: &[(Term, Term)],
-    terms: &[Term],
+    arity: usize,
 ) -> Result<Vec<Term>, OutOfMemory>
-    ensures { IfOk result (λ v. v.items ≡ map (term_under binding.now) terms.now) }
+    requires { arity ≤ MOST_ARGUMENTS }
+    ensures value { IfOk result (λ v. v.items ≡ map (term_under binding.now) (parameters arity)) }
+    ensures size { IfOk result (λ v. length v.items ≡ arity) }
 {
-    let mut made = Vec::new(alloc);
-    for term in terms {
-        made.push(bound_term(binding, *term))?;
+    let mut made = Vec::with_capacity(alloc, arity)?;
+    for n in 0..arity {
+        made.push(bound_term(binding, Term::Univ(n as u16)))?;
     }
     Ok(made)
 }
@@ -173,9 +165,9 @@ fn folded(alloc: Global, fold: &Fold<'_>, binding: &[(Term, Term)]) -> Result<He
     requires { fold.now.arity ≤ MOST_ARGUMENTS }
     ensures { IfOk result (λ h. h ≡ folded_by fold.now.predicate fold.now.arity binding.now) }
 {
-    let terms = bound_terms(alloc, binding, &PARAMETERS[..fold.arity])?;
+    let terms = bound_parameters(alloc, binding, fold.arity)?;
     let mut spatial = Vec::new(alloc);
-    spatial.push(Spatial::Pred(fold.predicate, Args::from_slice(&terms)))?;
+    spatial.push(Spatial::Pred(fold.predicate, Args::from_vec(terms)?))?;
     Ok(Heap::from_lists(Vec::new(alloc), spatial))
 }
 

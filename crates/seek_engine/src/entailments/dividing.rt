@@ -10,7 +10,7 @@ use std::alloc::Global;
 /// A list of one rule: Cut of the atom at a place by another atom.
 fn cut_alone(alloc: Global, place: u32, atom: &Spatial) -> Result<Vec<Rule>, OutOfMemory> {
     let places = Vec::from_slice(alloc, &[place])?;
-    let formula = Heap::from_slices(alloc, &[], &[*atom])?;
+    let formula = Heap::from_slices(alloc, &[], &[atom.clone()?])?;
     only(alloc, Rule::Cut(Positions::from_vec(places), formula))
 }
 

@@ -195,7 +195,10 @@ fn push_case(
     case: &Heap,
     args: &Args,
 ) {
-    let change = Change::Right(*args, exists_in_heap(sequent.right));
+    let Ok(args) = args.clone() else {
+        return offers.lack_memory();
+    };
+    let change = Change::Right(args, exists_in_heap(sequent.right));
     let Ok(body) = changed_heap(offers.alloc, &change, case) else {
         return offers.lack_memory();
     };

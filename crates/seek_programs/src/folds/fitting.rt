@@ -68,7 +68,7 @@ fn question(
     alloc: Global,
     state: &Heap,
     places: &[u32],
-    atom: Atom,
+    atom: &Atom,
 ) -> Result<Judgement, OutOfMemory> {
     let part = part_of(alloc, state, places)?;
     let formula = heap_of_atom(alloc, atom)?;
@@ -160,7 +160,7 @@ impl Fitting {
         strategy: &Entailments<'_>,
         state: &Heap,
         places: &[u32],
-        atom: Atom,
+        atom: &Atom,
     ) -> Result<bool, OutOfMemory> {
         self.asked = self.asked.saturating_add(1);
         if self.asked >= 16 {

@@ -41,7 +41,7 @@ fn push_cut(
     fitting: &mut Fitting,
     cover: &Cover<'_>,
     places: &[u32],
-    atom: Atom,
+    atom: &Atom,
     fuel: u32,
 ) -> Result<(), OutOfMemory> {
     if !fitting.fits(strategy, cover.goal, places, atom)? {
@@ -67,7 +67,7 @@ fn push_pure_moves(
     cover: &Cover<'_>,
     atom: Pure,
 ) -> Result<(), OutOfMemory> {
-    push_cut(moves, strategy, fitting, cover, &[], Atom::Pure(atom), 1)?;
+    push_cut(moves, strategy, fitting, cover, &[], &Atom::Pure(atom), 1)?;
     if let Some(rule) = distinct_for(cover.goal, atom, cover.goal.pure()) {
         return push_rule(moves, strategy.setting.alloc, rule, cover.then);
     }
@@ -94,7 +94,8 @@ fn image_of(
     if cover.is_whole && unknown > 0 {
         return Ok(None);
     }
-    Ok(Some(apply_to_spatial(atom, &Subst::from_vec(pairs))))
+    let subst = Subst::from_vec(pairs);
+    Ok(Some(apply_to_spatial(cover.matcher.alloc, atom, &subst)?))
 }
 
 /// The companion's first atom that the map leaves out, which is a predicate's.
@@ -153,11 +154,11 @@ fn push_folds(
     let Some(missing) = image_of(cover, matching, atom)? else {
         return Ok(());
     };
+    let atom = Atom::Spatial(missing.clone()?);
     for places in &choices(cover, matching)? {
         let places = places.as_slice();
         if !is_idle(cover.goal, places, &missing) {
-            let atom = Atom::Spatial(missing);
-            push_cut(moves, strategy, fitting, cover, places, atom, cover.fuel)?;
+            push_cut(moves, strategy, fitting, cover, places, &atom, cover.fuel)?;
         }
     }
     Ok(())

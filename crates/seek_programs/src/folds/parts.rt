@@ -18,10 +18,10 @@ pub fn heap_of(alloc: Global, pure: &[Pure], spatial: &[Spatial]) -> Result<Heap
 }
 
 /// The heap of one atom.
-pub fn heap_of_atom(alloc: Global, atom: Atom) -> Result<Heap, OutOfMemory> {
+pub fn heap_of_atom(alloc: Global, atom: &Atom) -> Result<Heap, OutOfMemory> {
     match atom {
-        Atom::Pure(atom) => heap_of(alloc, &[atom], &[]),
-        Atom::Spatial(atom) => heap_of(alloc, &[], &[atom]),
+        Atom::Pure(atom) => heap_of(alloc, &[*atom], &[]),
+        Atom::Spatial(atom) => heap_of(alloc, &[], &[atom.clone()?]),
     }
 }
 
@@ -30,7 +30,7 @@ pub fn part_of(alloc: Global, state: &Heap, places: &[u32]) -> Result<Heap, OutO
     let mut spatial = Vec::new(alloc);
     for place in places {
         if let Some(atom) = state.spatial_at(*place) {
-            spatial.push(*atom)?;
+            spatial.push(atom.clone()?)?;
         }
     }
     let pure = state.pure();

@@ -8,7 +8,7 @@ pub loop-tree-preserved : goal.loop-tree-preserved
 loop-tree-preserved g c = (
   made_of spatial_of (spatial_value g.F.TermReader.value c.args.heads.now)
       c.args.trees.now c.loop-tree.tree-index c.tree-item.result c.loop-tree.atoms.items c.push.new.self.items
-      c.spatial_atom.result c.loop-tree-test.true c.tree-item.is c.spatial_atom.ensures c.in_ok-push.ensures.items
+      c.in_ok-spatial_atom.value c.loop-tree-test.true c.tree-item.is c.in_ok-spatial_atom.ensures c.in_ok-push.ensures.items
       c.loop-tree.invariant.0,
   left_of spatial_of (IsSmallSpatial g.F.TermReader.value)
       c.args.trees.now c.loop-tree.tree-index c.tree-item.result c.loop-tree-test.true c.tree-item.is
