@@ -8,25 +8,25 @@ use Rattle.heap_formula.specs.declared.terms.Term.{Term}
 use Rattle.heap_formula.specs.declared.terms.Term.TheVariants.{Nil}
 use Rattle.heap_formula.specs.declared.atoms.Pure.{Pure}
 use Rattle.heap_formula.specs.declared.proof_rules.RuleFault.TheVariants.{LinkPure, LinkSpatial}
-use Rattle.heap_formula.specs.Substitution.{Bindings, apply_pure, apply_spatial}
+use Rattle.heap_formula.specs.Substitution.{Bindings, apply_pure, apply_spatial, apply_term}
 use Rattle.heap_formula.specs.declared.atoms.Spatial.{Spatial}
 use Rattle.std.specs.Prelude.{slice_get}
 use Rattle.std.proofs.lemmas.List.{drop_all}
 use Rattle.rule_table.specs.Tests.{follows, has_number}
 use Rattle.rule_table.specs.LinkTable.{all_equated, pure_fault, spatial_fault, matches_some}
 
-pub second_ends : (pures : List Pure) (ts us : List Term) (i : ℕ) → length us ≤ i → i < length ts
-    → all_equated pures (drop i ts) (drop i us) ≡ false
-second_ends pures ts us i le lt =
+pub second_ends : (pures : List Pure) (s : Bindings) (ts us : List Term) (i : ℕ) → length us ≤ i → i < length ts
+    → all_equated pures (map (apply_term s) (drop i ts)) (drop i us) ≡ false
+second_ends pures s ts us i le lt =
     let a = drop-cons ts i Nil lt in
     let b = drop_all i us le in
-    ap (λ (xs : List Term). all_equated pures xs (drop i us)) a
-    ∙ ap (λ (ys : List Term). all_equated pures (get_or ts i Nil ∷ drop (suc i) ts) ys) b
+    λ j. all_equated pures (map (apply_term s) (a j)) (b j)
 
-pub first_ends : (pures : List Pure) (ts us : List Term) (i : ℕ) → length ts ≤ i → i ≤ length ts → i ≤ length us
-    → all_equated pures (drop i ts) (drop i us) ≡ nat_eq (length ts) (length us)
-first_ends pures ts us i le ge within =
-    ap (λ (xs : List Term). all_equated pures xs (drop i us)) (drop_all i ts le)
+pub first_ends : (pures : List Pure) (s : Bindings) (ts us : List Term) (i : ℕ) → length ts ≤ i → i ≤ length ts
+    → i ≤ length us → all_equated pures (map (apply_term s) (drop i ts)) (drop i us)
+    ≡ nat_eq (length ts) (length us)
+first_ends pures s ts us i le ge within =
+    ap (λ (xs : List Term). all_equated pures (map (apply_term s) xs) (drop i us)) (drop_all i ts le)
     ∙ rest (nat_eq (length ts) (length us)) refl
   where
     rest : (b : Bool) → nat_eq (length ts) (length us) ≡ b

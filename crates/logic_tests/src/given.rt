@@ -19,9 +19,9 @@ pub struct HeapRow(pub &'static [Pure], pub &'static [Shape]);
 /// The first eight of the terms.
 pub fn args(terms: &[Term]) -> Args {
     if terms.len() <= 8 {
-        Args::from_slice(terms)
+        Args::from_few(terms)
     } else {
-        Args::from_slice(&terms[..8])
+        Args::from_few(&terms[..8])
     }
 }
 
@@ -29,7 +29,7 @@ pub fn args(terms: &[Term]) -> Args {
 pub fn atom(shape: Shape) -> Spatial {
     match shape {
         Shape::At(t, fields) => Spatial::Cell(t, args(fields)),
-        Shape::List(t) => Spatial::Pred(0, Args::from_slice(&[t])),
+        Shape::List(t) => Spatial::Pred(0, Args::from_few(&[t])),
         Shape::Pred(p, terms) => Spatial::Pred(p, args(terms)),
     }
 }

@@ -45,15 +45,15 @@ fn convert_under(
     let (Spatial::Pred(from, args), Spatial::Pred(to, _)) = (atom, made) else {
         return Err(Stop::NoWay);
     };
-    let general = general_atom(work, *from, args.len(), ARGUMENT)?;
+    let general = [general_atom(work, *from, args.len(), ARGUMENT)?];
     let general_made = general_atom(work, *to, args.len(), ARGUMENT)?;
     let right = heap_with(work, &[general_made])?;
     let mut pure = Vec::new(work.setting.alloc);
     if let Some(known) = known {
         pure.push(known)?;
     }
-    let mut instance = work.lemma(&pure, &[general], &right, HARD)?;
-    instance.put(&argument_names(work, atom, &general)?);
+    let mut instance = work.lemma(&pure, &general, &right, HARD)?;
+    instance.put(&argument_names(work, atom, &general[0])?);
     let places = own_places(work, node, &[atom.clone()?])?;
     let formula = heap_with(work, &[made.clone()?])?;
     work.cut_by(node, &places, formula, instance)

@@ -54,19 +54,19 @@ pub fn general_atom(
 
 /// Whether an atom of one predicate is one of the other with the same arguments, perhaps where it has a cell.
 pub fn converts(work: &mut Work<'_>, from: u16, to: u16, count: usize) -> Result<bool, Stop> {
-    let atom = general_atom(work, from, count, 0)?;
+    let left = [general_atom(work, from, count, 0)?];
     let made = general_atom(work, to, count, 0)?;
     let right = heap_with(work, &[made])?;
-    if work.has_lemma(&[], &[atom], &right, HARD)? {
+    if work.has_lemma(&[], &left, &right, HARD)? {
         return Ok(true);
     }
-    match work.shapes.edge(&atom) {
+    match work.shapes.edge(&left[0]) {
         Some(
             seek_shapes::Edge {
                 root,
                 end: Some(end),
             },
-        ) => work.has_lemma(&[Pure::Neq(root, end)], &[atom], &right, HARD),
+        ) => work.has_lemma(&[Pure::Neq(root, end)], &left, &right, HARD),
         _ => Ok(false),
     }
 }

@@ -8,9 +8,9 @@ use std::alloc::{AllocError, Global};
 /// Terms of a cell or a call, at most eight.
 pub fn args(terms: &[Term]) -> Args {
     if terms.len() > 8 {
-        Args::from_slice(&terms[..8])
+        Args::from_few(&terms[..8])
     } else {
-        Args::from_slice(terms)
+        Args::from_few(terms)
     }
 }
 

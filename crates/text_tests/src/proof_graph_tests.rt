@@ -15,11 +15,11 @@ use trace_pairs::{Edge, TraceGraph};
 
 /// The judgement of one heap: predicate 0 of nil, a cell, predicate 0 of nil.
 fn judgement_of(alloc: Global) -> Result<Judgement, OutOfMemory> {
-    let nil = Args::from_slice(&[Term::Nil]);
+    let nil = [Term::Nil];
     let spatial = vec![in alloc;
-        Spatial::Pred(0, nil),
-        Spatial::Cell(Term::Univ(0), nil),
-        Spatial::Pred(0, nil),
+        Spatial::Pred(0, Args::from_few(&nil)),
+        Spatial::Cell(Term::Univ(0), Args::from_few(&nil)),
+        Spatial::Pred(0, Args::from_few(&nil)),
     ]?;
     let heap = Heap::from_lists(Vec::new(alloc), spatial);
     let disjuncts = Disjuncts::single(alloc, Heap::new(alloc))?;

@@ -1,9 +1,5 @@
-use Rattle.std.proofs.Common.{◌≡◌, ℕ, ◌<◌, sym, ◌∙◌, ap, arith, length, Some, not, ◌&&◌, take, get_or}
-use Rattle.std.specs.Prelude.{slice_get}
-use Rattle.heap_formula.specs.declared.atoms.Spatial.{Spatial}
+use Rattle.std.proofs.Common.{◌≡◌, ℕ, ◌<◌, sym, ◌∙◌, ap, arith, length, Some}
 use Rattle.heap_formula.specs.declared.proof_rules.RuleFault.TheVariants.{LinkSpatial}
-use Rattle.rule_table.specs.Tests.{has_number}
-use Rattle.rule_table.specs.LinkTable.{matches_some}
 use Rattle.back_links.proofs.LinkLoops.{spatial_step, entries_left}
 use Rattle.back_links.proofs.matching.spatial_fault.Goals as goal
 
@@ -12,9 +8,7 @@ loop-k-preserved c =
     let k = c.loop-k.k in
     let ms = c.args.entries.now in
     let in_ms : k < length ms = c.if-k-entries.false in
-    let t = ap (λ (y : Spatial). not (has_number (take k ms) (get_or ms k 0)) && matches_some c.args.pures.now y
-    (slice_get c.args.atoms.now (get_or ms k 0))) (sym c.apply_to_spatial.ensures) ∙ sym c.entry_fits.ensures
-    ∙ c.if-not-entry_fits.false in (
+    let t = sym c.entry_fits.ensures ∙ c.if-not-entry_fits.false in (
       spatial_step c.args.pures.now c.args.atoms.now c.args.whole c.args.subst.now ms c.args.xs.now k c.index-xs-k.result
           in_ms c.loop-k-test.true (sym c.index-xs-k.is) t ∙ c.loop-k.invariant.0,
       omega arith,
