@@ -40,6 +40,34 @@ def locals_up_to(number):
     return f"pred p(1) {{ $0 = ?{number} : emp }};\n{NODE}"
 
 
+def fields(count):
+    """A cell at nil with so many fields, which is absurd; its first field is three tokens behind the address, and each other two further on."""
+    return f"node true : nil -> ({', '.join(['nil'] * count)}) |- true : emp by Absurd;\nend;\n"
+
+
+def parameters(count):
+    return f"pred p({count}) {{ true : emp }};\n{NODE}"
+
+
+def wide_use(count):
+    """A use of a predicate with so many parameters, whose case says that the last is the address of a cell with as many fields: itself."""
+    own = ", ".join(f"${i}" for i in range(count))
+    terms = ", ".join(["$0"] * count)
+    return (
+        f"pred p({count}) {{ true : ${count - 1} -> ({own}) }};\n"
+        f"node true : p({terms}) |- true : p({terms}) by Unfold 0 to 1;\n"
+        f"node true : $0 -> ({terms}) |- true : p({terms}) by UnfoldRight 0 0 to 2;\n"
+        f"node true : $0 -> ({terms}) |- true : $0 -> ({terms}) by Frame 0 0 to 3;\n{NODE}"
+    )
+
+
+def wide_program(count):
+    """A cell of so many fields, of which the last is read and written."""
+    lines = [f"$0 := new {count}", f"$1 := $0.{count}", f"$0.{count} := nil", "stop"]
+    whole = "".join(f"line {i + 1} : {line};\n" for i, line in enumerate(lines))
+    return whole + NODE
+
+
 # The 64th atom of a heap is the one that traces follow: 63 atoms that stay, and one that is unfolded again and again. Where a Cut puts
 # the atom in its own place no trace passes, so that the same way round has none.
 ATOMS = " * ".join(["q()"] * 63 + ["p()"])
@@ -75,9 +103,22 @@ CHECKED = [
     (proof(locals_up_to(63)), 0, ACCEPTED),
     at_token(proof(locals_up_to(64)), 5, "limit locals", 4 + 6 + 4),
     at_token(proof(locals_up_to(16), 2), 5, "limit locals", 4 + 6 + 4),
-    # what has the same limit in each version
-    at_token(proof("pred p(9) { true : emp };\n" + NODE), 5, "limit arguments", 4 + 3),
-    at_token(proof("line 1 : $0 := new 9;\nline 2 : stop;\n" + NODE), 5, "limit fields", 4 + 7),
+    # parameters, arguments and fields
+    (proof(parameters(64)), 0, ACCEPTED),
+    at_token(proof(parameters(65)), 5, "limit arguments", 4 + 3),
+    at_token(proof(parameters(9), 2), 5, "limit arguments", 4 + 3),
+    at_token(proof(parameters(9), 1), 5, "limit arguments", 4 + 3),
+    (proof(fields(64)), 0, ACCEPTED),
+    at_token(proof(fields(65)), 5, "limit arguments", 4 + 3 + 3 + 2 * 64),
+    at_token(proof(fields(9), 2), 5, "limit arguments", 4 + 3 + 3 + 2 * 8),
+    at_token(proof(fields(9), 1), 5, "limit arguments", 4 + 3 + 3 + 2 * 8),
+    (proof(wide_use(8), 1), 0, b"accepted entailment nodes 4 links 0"),
+    (proof(wide_use(9)), 0, b"accepted entailment nodes 4 links 0"),
+    (proof(wide_use(64)), 0, b"accepted entailment nodes 4 links 0"),
+    (proof(wide_program(64)), 0, ACCEPTED),
+    at_token(proof(wide_program(65)), 5, "limit fields", 4 + 7),
+    at_token(proof(wide_program(9), 2), 5, "limit fields", 4 + 7),
+    at_token(proof(wide_program(9), 1), 5, "limit fields", 4 + 7),
     # a free branch
     (proof("line 1 : if * goto 1;\nline 2 : stop;\n" + NODE), 0, ACCEPTED),
     # a rule that passes the limit: one atom more than 64, and one pure atom more than 1,024
@@ -115,7 +156,14 @@ def many_cells(count):
     return f"goal true : {' * '.join(['nil -> (nil)'] * count)} |- true : emp;\nend;\n"
 
 
+def many_parameters(count):
+    return f"pred p({', '.join(f'a{i}' for i in range(count))}) {{ true : emp }};\ngoal true : emp |- true : emp;\nend;\n"
+
+
 PROBLEMS = [
+    (problem(many_parameters(64)), 0, proof(parameters(64))),
+    at_token(problem(many_parameters(65)), 5, "limit arguments", 4 + 3 + 2 * 64),
+    at_token(problem(many_parameters(9), 2), 5, "limit arguments", 4 + 3 + 2 * 8),
     (problem(many_cells(64)), 0, proof(cells(64))),
     at_token(problem(many_cells(65)), 5, "limit spatial", 4 + 3 + 6 * 64),
     at_token(problem(many_locals(65)), 5, "limit locals", 4 + 6 + 4 * 64 + 2),
@@ -139,9 +187,17 @@ def asked(count):
     return f"stack;\nheap;\nask true : {' * '.join(['nil -> (nil)'] * count)};\nend;\n"
 
 
+def wide_cell(count):
+    """A cell with so many fields in the heap; its first field is three tokens behind the address, and each other two further on."""
+    return f"stack;\nheap 1 -> ({', '.join(['0'] * count)});\nask true : emp;\nend;\n"
+
+
 # The first cell is at token 4 + 3; where there is none, the first asked atom is four tokens further on.
 MODELS = [
     (model(stored(0)), 0, b"holds"),
+    (model(wide_cell(64)), 1, b"fails"),
+    at_token(model(wide_cell(65)), 5, "limit arguments", 4 + 3 + 3 + 2 * 64),
+    at_token(model(wide_cell(9), 1), 5, "limit arguments", 4 + 3 + 3 + 2 * 8),
     (model(stored(64)), 1, b"fails"),
     at_token(model(stored(65)), 5, "limit cells", 4 + 3 + 6 * 64),
     at_token(model(stored(17), 1), 5, "limit cells", 4 + 3 + 6 * 16),

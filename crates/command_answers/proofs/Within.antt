@@ -17,9 +17,9 @@ use Rattle.formula_reader.proofs.HeapsWithin.{in_heap_each}
 use Rattle.pair_family.specs.Closedness.{AreCases, HasFields, IsCase, IsParameterBelow}
 use Rattle.heap_formula.proofs.AllMembers.{each_imply}
 
-has_fields : (x : Spatial) → HasFewFields x → HasFields x
-has_fields (Cell t ts) few = few.0
-has_fields (Pred p ts) few = tt
+has_fields : (most : Limits) (x : Spatial) → HasFewFields most x → HasFields x
+has_fields most (Cell t ts) few = few.0
+has_fields most (Pred p ts) few = tt
 
 parameter_below : (k : ℕ) (t : Term) → IsBelow k t → IsParameterBelow k t
 parameter_below k Nil below = tt

@@ -52,16 +52,16 @@ use Rattle.formula_reader.proofs.Firsts.{each_of_none}
 
 -- ---- atoms
 
-fields_pass : (x : Spatial) → HasFields x → has_fields x ≡ true
-fields_pass (Cell t ts) f = and_from (nat_lt 0 (length ts)) (nat_le (length ts) 8) (lt-ltb 0 (length ts) f.0)
-    (le-leb (length ts) 8 f.1)
-fields_pass (Pred q ts) f = refl
+fields_pass : (most : Limits) (x : Spatial) → HasFields most x → has_fields most x ≡ true
+fields_pass most (Cell t ts) f = and_from (nat_lt 0 (length ts)) (nat_le (length ts) most.arguments)
+    (lt-ltb 0 (length ts) f.0) (le-leb (length ts) most.arguments f.1)
+fields_pass most (Pred q ts) f = refl
 
-fields_are : (x : Spatial) → has_fields x ≡ true → HasFields x
-fields_are (Cell t ts) e =
-    let b = and_parts (nat_lt 0 (length ts)) (nat_le (length ts) 8) e in
-    (ltb-true 0 (length ts) b.0, leb-true (length ts) 8 b.1)
-fields_are (Pred q ts) e = tt
+fields_are : (most : Limits) (x : Spatial) → has_fields most x ≡ true → HasFields most x
+fields_are most (Cell t ts) e =
+    let b = and_parts (nat_lt 0 (length ts)) (nat_le (length ts) most.arguments) e in
+    (ltb-true 0 (length ts) b.0, leb-true (length ts) most.arguments b.1)
+fields_are most (Pred q ts) e = tt
 
 uses_known : (ds : List Definition) (xs : List Spatial) → list_all (is_use ds) xs ≡ true
     → first_fault (use_fault ds) xs ≡ None
@@ -88,7 +88,7 @@ module _ (most : Limits) (ds : List Definition) where
   pub heap_exact : (a : SymbolicHeap) → heap_excess most ds a ≡ None → IsHeapWithin most ds a
   heap_exact a e =
       let known = list_all (is_use ds) a.spatial in
-      let fields = list_all has_fields a.spatial in
+      let fields = list_all (has_fields most) a.spatial in
       let first = not_chosen (not (is_short most a)) Atoms _ e in
       let second = not_chosen (not (has_numbers a)) Variable _ first.1 in
       let third = not_chosen (not known) Predicate _ second.1 in
@@ -97,19 +97,19 @@ module _ (most : Limits) (ds : List Definition) where
         short = passed (is_short most a) first.0;
         numbers = passed (has_numbers a) second.0;
         known = uses_known ds a.spatial (passed known third.0);
-        fields = each_passes has_fields HasFields fields_are a.spatial (passed fields fourth.0);
+        fields = each_passes (has_fields most) (HasFields most) (fields_are most) a.spatial (passed fields fourth.0);
       }
 
   pub heap_none : (a : SymbolicHeap) → IsHeapWithin most ds a → heap_excess most ds a ≡ None
   heap_none a w =
       let known = list_all (is_use ds) a.spatial in
-      let fields = list_all has_fields a.spatial in
+      let fields = list_all (has_fields most) a.spatial in
       none_chosen (not (is_short most a)) Atoms _ (not_failed (is_short most a) w.short)
       (none_chosen (not (has_numbers a)) Variable _ (not_failed (has_numbers a) w.numbers)
       (none_chosen (not known) Predicate _ (not_failed known (known_used ds a.spatial w.known))
       (none_chosen (not fields) Fields None (not_failed fields
-      (all_pass has_fields a.spatial (each_imply HasFields (λ x. has_fields x ≡ true)
-      fields_pass a.spatial w.fields))) refl)))
+      (all_pass (has_fields most) a.spatial (each_imply (HasFields most) (λ x. has_fields most x ≡ true)
+      (fields_pass most) a.spatial w.fields))) refl)))
 
   -- ---- cases
 

@@ -89,20 +89,20 @@ module _ (limit : Limits) (ds : List Definition) (free : HaveFreeNames ds) where
     arguments_fit [] f = (tt, tt)
     arguments_fit (t ∷ ts) f = (tt, fields_fit (t ∷ ts) (omega arith) f)
 
-    spatial_fits : (x : Spatial) → IsShaped ds x → InSpatial (TermFits universal) x
+    spatial_fits : (x : Spatial) → IsShaped limit ds x → InSpatial (TermFits universal) x
         → (grammar.spatial (grammar.terms universal)).fits (spatial_tree ds x)
     unfolding shared.spatial shared.predicate shared.cell
     spatial_fits (Cell t ts) s f = (tt, (f.0, fields_fit ts s.1.0 f.1))
     spatial_fits (Pred q ts) s f = (tt, (used_name_free ds q (length ts) s.0 free, arguments_fit ts f))
 
-    spatials_fit : (xs : List Spatial) → Each (IsShaped ds) xs → Each (InSpatial (TermFits universal)) xs
+    spatials_fit : (xs : List Spatial) → Each (IsShaped limit ds) xs → Each (InSpatial (TermFits universal)) xs
         → (grammar.spatials (grammar.terms universal)).fits (map (spatial_tree ds) xs)
     unfolding shared.spatials shared.spatials1
     spatials_fit [] s f = (tt, tt)
     spatials_fit (x ∷ xs) s f = (
       tt,
       list_fits (grammar.spatial (grammar.terms universal)) (spatial_tree ds) grammar.some_spatial grammar.star
-          (x ∷ xs) (omega arith) (each_of_both (IsShaped ds) (InSpatial (TermFits universal))
+          (x ∷ xs) (omega arith) (each_of_both (IsShaped limit ds) (InSpatial (TermFits universal))
           (λ y. (grammar.spatial (grammar.terms universal)).fits (spatial_tree ds y)) spatial_fits (x ∷ xs) s f),
     )
 
@@ -149,7 +149,7 @@ module _ (flaw : ℕ → TermTree → Found) (span : TermTree → ℕ) (limit : 
       (none_later (flaw k (term_tree t)) _ (g.0 k) (g.1 (k + span (term_tree t))))
 
   module _ (ds : List Definition) (own : HaveOwnNames ds) (few : HaveFewParameters limit ds) where
-    spatial_flawless : (n k : ℕ) (x : Spatial) → n < limit.spatial → IsShaped ds x → InSpatial (IsFlawless flaw) x
+    spatial_flawless : (n k : ℕ) (x : Spatial) → n < limit.spatial → IsShaped limit ds x → InSpatial (IsFlawless flaw) x
         → spatial_flaw flaw span limit (heads_of ds ds) n k (spatial_tree ds x) ≡ None
     spatial_flawless n k (Cell t ts) below s g =
         let most = s.1.1 in
@@ -170,12 +170,12 @@ module _ (flaw : ℕ → TermTree → Found) (span : TermTree → ℕ) (limit : 
         let s = small limit ds a w in
         let pures = s.pures in
         let spatials = s.spatials in
-        let shaped = each_of_both (IsShaped ds) (InSpatial (IsFlawless flaw))
-        (λ x. IsShaped ds x × InSpatial (IsFlawless flaw) x) (λ x p q. (p, q)) a.spatial s.shaped g.1 in
+        let shaped = each_of_both (IsShaped limit ds) (InSpatial (IsFlawless flaw))
+        (λ x. IsShaped limit ds x × InSpatial (IsFlawless flaw) x) (λ x p q. (p, q)) a.spatial s.shaped g.1 in
         let first = none_listed (pure_flaw flaw span limit) (pure_span span) pure_tree (InPure (IsFlawless flaw))
         limit.pure pure_flawless 0 k a.pure (omega arith) g.0 in
         let second = none_listed (spatial_flaw flaw span limit (heads_of ds ds)) (spatial_span span) (spatial_tree ds)
-        (λ x. IsShaped ds x × InSpatial (IsFlawless flaw) x) limit.spatial
+        (λ x. IsShaped limit ds x × InSpatial (IsFlawless flaw) x) limit.spatial
         (λ n j x below b. spatial_flawless n j x below b.0 b.1) 0 (k + pures_span span (map pure_tree a.pure))
         a.spatial (omega arith) shaped in
         none_later _ _ first second

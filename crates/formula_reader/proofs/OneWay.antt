@@ -39,9 +39,9 @@ faults_set = hlevel props
 none_prop : (o : Option DefFault) → IsProp (o ≡ None)
 none_prop o = faults_set o None
 
-fields_prop : (x : Spatial) → IsProp (HasFields x)
-fields_prop (Cell t ts) = ×_prop le_prop le_prop
-fields_prop (Pred q ts) = Unit-prop
+fields_prop : (most : Limits) (x : Spatial) → IsProp (HasFields most x)
+fields_prop most (Cell t ts) = ×_prop le_prop le_prop
+fields_prop most (Pred q ts) = Unit-prop
 
 universal_prop : (t : Term) → IsProp (IsUniversal t)
 universal_prop Nil = Unit-prop
@@ -110,7 +110,7 @@ module _ (limit : Limits) (ds : List Definition) where
     short = true_prop (is_short limit a) p.short q.short i;
     numbers = true_prop (has_numbers a) p.numbers q.numbers i;
     known = none_prop (case_fault ds a) p.known q.known i;
-    fields = each_prop HasFields fields_prop a.spatial p.fields q.fields i;
+    fields = each_prop (HasFields most) (fields_prop most) a.spatial p.fields q.fields i;
   }
 
   judgement_prop : (count : ℕ) (j : Judgement) → IsProp (IsJudgementWithin limit ds count j)

@@ -4,7 +4,6 @@ use Rattle.std.specs.Prelude.{length, take, Option, Some, None, is_none}
 use Rattle.std.specs.List.{list_all}
 use Rattle.std.specs.Option.{option_map, option_or}
 use Rattle.cyc_basics.specs.declared.limits.Limits.{Limits}
-use Rattle.cyc_basics.specs.declared.limits.TheConstants.{MOST_ARGUMENTS}
 use Rattle.heap_formula.specs.declared.atoms.Spatial.{Spatial}
 use Rattle.heap_formula.specs.declared.atoms.Spatial.TheVariants.{Cell, Pred}
 use Rattle.heap_formula.specs.declared.commands.Command.{Command}
@@ -42,10 +41,10 @@ first_of f n (x ∷ xs) = option_or (f n x) (first_of f (n + 1) xs)
 
 -- ---- heaps
 
--- a cell has one to eight fields
-abbrev pub has_fields : Spatial → Bool
-has_fields (Cell t ts) = nat_lt 0 (length ts) && nat_le (length ts) MOST_ARGUMENTS
-has_fields (Pred q ts) = true
+-- a cell has one field at least, and no more than the version allows
+abbrev pub has_fields : Limits → Spatial → Bool
+has_fields most (Cell t ts) = nat_lt 0 (length ts) && nat_le (length ts) most.arguments
+has_fields most (Pred q ts) = true
 
 -- a predicate is defined, and has as many arguments
 abbrev pub is_use : List Definition → Spatial → Bool
@@ -56,7 +55,7 @@ heap_excess most ds a =
     if not (is_short most a) then Some Atoms
     else if not (has_numbers a) then Some Variable
     else if not (list_all (is_use ds) a.spatial) then Some Predicate
-    else if not (list_all has_fields a.spatial) then Some Fields
+    else if not (list_all (has_fields most) a.spatial) then Some Fields
     else None
 
 -- ---- definitions

@@ -1,10 +1,10 @@
 -- The formulas that a state's atoms are folded into are within the limits.
-use Rattle.std.proofs.Common.{◌≡◌, ℕ, ◌<◌, ◌≤◌, Bool, true, false, List, [], ◌∷◌, ◌++◌, map, length, Option, Some, None}
+use Rattle.std.proofs.Common.{◌≡◌, ℕ, zero, suc, ◌<◌, ◌≤◌, Bool, true, false, List, [], ◌∷◌, ◌++◌, map, length, Option, Some, None}
 use Rattle.std.proofs.Common.{ap, ◌∙◌, arith, le-leb}
 use Rattle.std.proofs.lemmas.Bool.{and_from}
 use Rattle.std.specs.Prelude.{IfSome, slice_get, nat_eq, nat_le, if◌then◌else◌}
 use Rattle.std.proofs.lemmas.Bool.Decides.{Decides-eqb}
-use Rattle.std.proofs.lemmas.List.{length-map, length-take-le}
+use Rattle.std.proofs.lemmas.List.{length-map}
 use Rattle.cyc_basics.specs.Limits.{AreLimits}
 use Rattle.cyc_basics.specs.declared.limits.Limits.{Limits}
 use Rattle.heap_formula.specs.declared.terms.Term.{Term}
@@ -25,9 +25,11 @@ use Rattle.rule_table.specs.Tests.{same_term, has_number}
 use Rattle.search_moves.specs.Folds.{Binding, bound_in, bind_variable, bind, bind_terms, bind_lists, bind_atom, placed}
 use Rattle.search_moves.specs.Folds.{parameters, can_fold, value_of, bound_term, folded, ascending, case_follows}
 use Rattle.search_moves.specs.Folds.{fold_by, folds_of_case, folds_of, folds}
+use Rattle.cyc_basics.specs.declared.limits.TheConstants.{MOST_ARGUMENTS}
+use Rattle.search_moves.proofs.Parameters.{parameters-length}
 use Rattle.rule_book.specs.Limits.{IsHeapWithin, IsDefinitionWithin, IsRuleWithin}
 use Rattle.proof_search.proofs.Members.{each_if, each_unless, some_if, each_of_any, each_placed}
-use Rattle.heap_formula.proofs.AllMembers.{each_append, each_take, each_mapped, each_at}
+use Rattle.heap_formula.proofs.AllMembers.{each_append, each_mapped, each_at}
 use Rattle.rule_book.proofs.Heaps.{IsLow}
 use Rattle.heap_formula.proofs.Greatest.{below_each}
 
@@ -96,35 +98,12 @@ bound_has s Nil h n = n
 bound_has s (Univ k) h n = value_has (Univ k) (bound_in s (Univ k)) n (found_has s (Univ k) h)
 bound_has s (Exist k) h n = value_has (Exist k) (bound_in s (Exist k)) n (found_has s (Exist k) h)
 
-parameters_have : (s : Binding) (arity : ℕ) → HasValues s → Each (λ t. IsLow (bound_term s t)) (parameters arity)
-parameters_have s arity h =
-    each_take (λ t. IsLow (bound_term s t)) arity (Univ 0 ∷ Univ 1 ∷ Univ 2 ∷ Univ 3 ∷ Univ 4 ∷ Univ 5 ∷ Univ 6 ∷ Univ 7
-    ∷ []) (
-      at 0 (omega arith),
-      (
-        at 1 (omega arith),
-        (
-          at 2 (omega arith),
-          (
-            at 3 (omega arith),
-            (
-              at 4 (omega arith),
-              (
-                at 5 (omega arith),
-                (at 6 (omega arith), (at 7 (omega arith), tt)),
-              ),
-            ),
-          ),
-        ),
-      ),
-    )
-  where
-    at : (k : ℕ) → k ≤ 7 → IsLow (bound_term s (Univ k))
-    at k l = bound_has s (Univ k) h (omega arith)
-
-parameters_count : (arity : ℕ) → arity ≤ 8 → length (parameters arity) ≡ arity
-parameters_count arity few = length-take-le arity (Univ 0 ∷ Univ 1 ∷ Univ 2 ∷ Univ 3 ∷ Univ 4 ∷ Univ 5 ∷ Univ 6 ∷ Univ 7
-    ∷ []) few
+parameters_have : (s : Binding) (arity : ℕ) → arity ≤ 65535 → HasValues s
+    → Each (λ t. IsLow (bound_term s t)) (parameters arity)
+parameters_have s zero few h = tt
+parameters_have s (suc n) few h =
+    each_append (λ t. IsLow (bound_term s t)) (parameters n) (Univ n ∷ []) (parameters_have s n (omega arith) h)
+    (bound_has s (Univ n) h (omega arith), tt)
 
 use_is_known : (o : Option Definition) (d : Definition) (n : ℕ) → o ≡ Some d → n ≡ d.arity
     → or_later (arity_fault o n) None ≡ None
@@ -134,23 +113,23 @@ use_is_known o d n at same =
     ∙ ap (λ b. or_later (if b then None else Some Arity) None) here
 
 module _ (most : Limits) (some : 0 < most.spatial) (bounded : AreLimits most) (ds : List Definition) where
-  folded_within : (q : ℕ) (d : Definition) (s : Binding) → slice_get ds q ≡ Some d → d.arity ≤ 8 → HasValues s
+  folded_within : (q : ℕ) (d : Definition) (s : Binding) → slice_get ds q ≡ Some d → d.arity ≤ MOST_ARGUMENTS → HasValues s
       → IsHeapWithin most ds (folded q d.arity s)
   folded_within q d s at few h =
       let terms = map (bound_term s) (parameters d.arity) in
       let below : terms_numbers terms ≤ 65535 = below_each number_bound 65535 terms
-      (each_mapped IsLow (bound_term s) (parameters d.arity) (parameters_have s d.arity h)) in
+      (each_mapped IsLow (bound_term s) (parameters d.arity) (parameters_have s d.arity (omega arith) h)) in
       record {
         short = and_from (nat_le 0 most.pure) (nat_le 1 most.spatial) (le-leb 0 most.pure (omega arith))
             (le-leb 1 most.spatial some);
         numbers = le-leb _ _ (omega arith);
         known = use_is_known (slice_get ds q) d (length terms) at
-            (length-map (parameters d.arity) (bound_term s) ∙ parameters_count d.arity few);
+            (length-map (parameters d.arity) (bound_term s) ∙ parameters-length d.arity);
         fields = (tt, tt);
       }
 
   folds_of_within : (a : SymbolicHeap) (q : ℕ) (d : Definition) → Each (InSpatial IsLow) a.spatial
-      → slice_get ds q ≡ Some d → d.arity ≤ 8 → Each (IsRuleWithin most ds) (folds_of a q d)
+      → slice_get ds q ≡ Some d → d.arity ≤ MOST_ARGUMENTS → Each (IsRuleWithin most ds) (folds_of a q d)
   folds_of_within a q d n at few =
       each_of_any (IsRuleWithin most ds) (folds_of_case a q d.arity) d.cases (λ case.
       each_if (IsRuleWithin most ds) (can_fold d.arity case)

@@ -72,9 +72,9 @@ heap_low a q =
 
 -- ---- shapes
 
--- a cell of one to eight fields, or a known predicate with its number of arguments
-abbrev pub IsShaped : List Definition → Spatial → Type 0
-IsShaped ds x = (use_fault ds x ≡ None) × HasFields x
+-- a cell with as many fields as there may be, or a known predicate with its number of arguments
+abbrev pub IsShaped : Limits → List Definition → Spatial → Type 0
+IsShaped most ds x = (use_fault ds x ≡ None) × HasFields most x
 
 neither : (o p : Option DefFault) → or_later o p ≡ None → (o ≡ None) × (p ≡ None)
 neither None p e = (refl, e)
@@ -84,28 +84,31 @@ no_later : (o p : Option DefFault) → o ≡ None → p ≡ None → or_later o 
 no_later None p d e = e
 no_later (Some f) p d e = cc
 
-pub are_shaped : (ds : List Definition) (xs : List Spatial) → first_fault (use_fault ds) xs ≡ None → Each HasFields xs
-    → Each (IsShaped ds) xs
-are_shaped ds [] e f = tt
-are_shaped ds (x ∷ xs) e f =
-    let n = neither (use_fault ds x) (first_fault (use_fault ds) xs) e in ((n.0, f.0), are_shaped ds xs n.1 f.1)
+pub are_shaped : (most : Limits) (ds : List Definition) (xs : List Spatial) → first_fault (use_fault ds) xs ≡ None
+    → Each (HasFields most) xs → Each (IsShaped most ds) xs
+are_shaped most ds [] e f = tt
+are_shaped most ds (x ∷ xs) e f =
+    let n = neither (use_fault ds x) (first_fault (use_fault ds) xs) e in ((n.0, f.0), are_shaped most ds xs n.1 f.1)
 
-are_known : (ds : List Definition) (xs : List Spatial) → Each (IsShaped ds) xs → first_fault (use_fault ds) xs ≡ None
-are_known ds [] s = refl
-are_known ds (x ∷ xs) s = no_later (use_fault ds x) (first_fault (use_fault ds) xs) s.0.0 (are_known ds xs s.1)
+are_known : (most : Limits) (ds : List Definition) (xs : List Spatial) → Each (IsShaped most ds) xs
+    → first_fault (use_fault ds) xs ≡ None
+are_known most ds [] s = refl
+are_known most ds (x ∷ xs) s = no_later (use_fault ds x) (first_fault (use_fault ds) xs) s.0.0
+    (are_known most ds xs s.1)
 
 -- a map of terms keeps the shape
-pub shape_after : (ds : List Definition) (f : Term → Term) (x : Spatial) → IsShaped ds x → IsShaped ds (in_spatial f x)
-shape_after ds f (Cell t ts) s =
+pub shape_after : (most : Limits) (ds : List Definition) (f : Term → Term) (x : Spatial) → IsShaped most ds x
+    → IsShaped most ds (in_spatial f x)
+shape_after most ds f (Cell t ts) s =
     let e = length-map ts f in
     let a = s.1.0 in
     let b = s.1.1 in (refl, (omega arith, omega arith))
-shape_after ds f (Pred q ts) s =
+shape_after most ds f (Pred q ts) s =
     let e = length-map ts f in (subst (λ n. arity_fault (slice_get ds q) n ≡ None) (sym e) s.0, tt)
 
-pub shapes_after : (ds : List Definition) (f : Term → Term) (xs : List Spatial) → Each (IsShaped ds) xs
-    → Each (IsShaped ds) (map (in_spatial f) xs)
-shapes_after ds f = each_made (in_spatial f) (IsShaped ds) (IsShaped ds) (shape_after ds f)
+pub shapes_after : (most : Limits) (ds : List Definition) (f : Term → Term) (xs : List Spatial)
+    → Each (IsShaped most ds) xs → Each (IsShaped most ds) (map (in_spatial f) xs)
+shapes_after most ds f = each_made (in_spatial f) (IsShaped most ds) (IsShaped most ds) (shape_after most ds f)
 
 -- ---- heaps
 
@@ -113,7 +116,7 @@ pub record IsSmall (most : Limits) (ds : List Definition) (a : SymbolicHeap) : T
   pub pures : length a.pure ≤ most.pure
   pub spatials : length a.spatial ≤ most.spatial
   pub low : InHeap IsLow a
-  pub shaped : Each (IsShaped ds) a.spatial
+  pub shaped : Each (IsShaped most ds) a.spatial
 
 pub short_pures : (most : Limits) (a : SymbolicHeap) → is_short most a ≡ true → length a.pure ≤ most.pure
 short_pures most a e =
@@ -131,7 +134,7 @@ small most ds a h =
       pures = short_pures most a h.short;
       spatials = short_spatials most a h.short;
       low = low_heap a h.numbers;
-      shaped = are_shaped ds a.spatial h.known h.fields;
+      shaped = are_shaped most ds a.spatial h.known h.fields;
     }
 
 pub within : (most : Limits) (ds : List Definition) (a : SymbolicHeap) → IsSmall most ds a → IsHeapWithin most ds a
@@ -140,13 +143,13 @@ within most ds a h =
       short = both_true (nat_le (length a.pure) most.pure) (nat_le (length a.spatial) most.spatial)
           (le-leb (length a.pure) most.pure h.pures) (le-leb (length a.spatial) most.spatial h.spatials);
       numbers = heap_low a h.low;
-      known = are_known ds a.spatial h.shaped;
-      fields = each_imply (IsShaped ds) HasFields (λ x s. s.1) a.spatial h.shaped;
+      known = are_known most ds a.spatial h.shaped;
+      fields = each_imply (IsShaped most ds) (HasFields most) (λ x s. s.1) a.spatial h.shaped;
     }
 
 -- what a test of its numbers and its length leaves to be shown
 pub within_tested : (most : Limits) (ds : List Definition) (a : SymbolicHeap) → is_short most a ≡ true
-    → has_numbers a ≡ true → Each (IsShaped ds) a.spatial → IsHeapWithin most ds a
+    → has_numbers a ≡ true → Each (IsShaped most ds) a.spatial → IsHeapWithin most ds a
 within_tested most ds a s n shaped =
     within most ds a (record {
       pures = short_pures most a s;
@@ -185,5 +188,5 @@ module _ (f : Term → Term) (g : (t : Term) → IsLow t → IsLow (f t)) where
         pures = omega arith;
         spatials = omega arith;
         low = (low_pures_after a.pure s.low.0, low_spatials_after a.spatial s.low.1);
-        shaped = shapes_after ds f a.spatial s.shaped;
+        shaped = shapes_after most ds f a.spatial s.shaped;
       })

@@ -52,7 +52,7 @@ module _ (most : Limits) (ds : List Definition) (n : ℕ) where
 
   -- but for the counts of atoms and the numbers
   abbrev pub IsReadyHeap : SymbolicHeap → Type 0
-  IsReadyHeap a = Each (IsShaped ds) a.spatial
+  IsReadyHeap a = Each (IsShaped most ds) a.spatial
 
   abbrev pub IsReady : Premise → Type 0
   IsReady p = Each IsReadyHeap (heaps_of p.judgement) × IsFormWithin n p.judgement

@@ -63,10 +63,10 @@ use Rattle.rule_table.proofs.EmptyPremises.{empty_on}
 -- ---- cases
 
 case_shapes : (most : Limits) (ds es : List Definition) → Each (IsDefinitionWithin most ds) es → (q : ℕ)
-    → Each (λ (c : SymbolicHeap). Each (IsShaped ds) c.spatial) (cases_of es q)
+    → Each (λ (c : SymbolicHeap). Each (IsShaped most ds) c.spatial) (cases_of es q)
 case_shapes most ds [] e q = tt
 case_shapes most ds (d ∷ es) e zero =
-    each_imply (IsCaseWithin most ds d.arity) (λ (c : SymbolicHeap). Each (IsShaped ds) c.spatial)
+    each_imply (IsCaseWithin most ds d.arity) (λ (c : SymbolicHeap). Each (IsShaped most ds) c.spatial)
     (λ c w. (small most ds c w.heap).shaped) d.cases e.0.cases
 case_shapes most ds (d ∷ es) e (suc q) = case_shapes most ds es e.1 q
 
@@ -116,7 +116,7 @@ module _ (most : Limits) (ds : List Definition) (n : ℕ) where
   H = IsHeapWithin most ds
 
   abbrev Shaped : Spatial → Type 0
-  Shaped = IsShaped ds
+  Shaped = IsShaped most ds
 
   bad : (f : RuleFault) → OnPremises P (Err f)
   bad f = tt
@@ -163,7 +163,7 @@ module _ (most : Limits) (ds : List Definition) (n : ℕ) where
           pures_low (nat_le p v) k v x u (antecedent j).pure r q s.low.0,
           low_spatials_after f (low_replaced v u r) (antecedent j).spatial s.low.1,
         );
-        shaped = shapes_after ds f (antecedent j).spatial s.shaped;
+        shaped = shapes_after most ds f (antecedent j).spatial s.shaped;
       }) in (
         heaps_with H (apply_judgement ((v, u) ∷ []) j) _ a
             (heaps_map H H ((v, u) ∷ []) j (within_after f (low_replaced v u r) most ds) h.heaps),
@@ -199,7 +199,7 @@ module _ (most : Limits) (ds : List Definition) (n : ℕ) where
       let s = small most ds (antecedent j) (first_heap H j h.heaps) in
       let a = unfolded (antecedent j) k (case_body ts m case) in
       let shaped = each_append Shaped (without k (antecedent j).spatial) (case_body ts m case).spatial
-      (Each-without Shaped (antecedent j).spatial k s.shaped) (shapes_after ds (case_term ts m) case.spatial c) in (
+      (Each-without Shaped (antecedent j).spatial k s.shaped) (shapes_after most ds (case_term ts m) case.spatial c) in (
         heaps_with (IsReadyHeap most ds n) j a shaped
             (all_ready most ds n (heaps_of j) h.heaps),
         form_with n j a h.form,
@@ -231,7 +231,7 @@ module _ (most : Limits) (ds : List Definition) (n : ℕ) where
       let body = in_heap (opened_term m) f in
       let shaped = each_append Shaped (chosen (others_of p) (antecedent j).spatial) body.spatial
       (each_chosen Shaped (antecedent j).spatial (others_of p) s.shaped)
-      (shapes_after ds (opened_term m) f.spatial (small most ds f g).shaped) in (
+      (shapes_after most ds (opened_term m) f.spatial (small most ds f g).shaped) in (
         heaps_with (IsReadyHeap most ds n) j _ shaped
             (all_ready most ds n (heaps_of j) h.heaps),
         form_with n j _ h.form,
@@ -271,7 +271,7 @@ module _ (most : Limits) (ds : List Definition) (n : ℕ) where
   unfolded_ready a b k f case h g c =
       let s = small most ds b g in
       let shaped = each_append Shaped (without k b.spatial) (in_heap f case).spatial
-      (Each-without Shaped b.spatial k s.shaped) (shapes_after ds f case.spatial c) in
+      (Each-without Shaped b.spatial k s.shaped) (shapes_after most ds f case.spatial c) in
       ((ready most ds n a h, (shaped, tt)), (omega arith, omega arith))
 
   unfold_right_nearly : (a b : SymbolicHeap) (k c : ℕ) (x : Spatial) → Each (IsDefinitionWithin most ds) ds → H a → H b
@@ -296,7 +296,7 @@ module _ (most : Limits) (ds : List Definition) (n : ℕ) where
     shaped = (small most ds a h).shaped
 
     renamed_shaped : (x : ℕ) → Each Shaped (renamed x m a).spatial
-    renamed_shaped x = shapes_after ds (apply_term ((x, Univ m) ∷ [])) a.spatial shaped
+    renamed_shaped x = shapes_after most ds (apply_term ((x, Univ m) ∷ [])) a.spatial shaped
 
     next : i < n → IsLineOf n (i + 1)
     next l = (omega arith, omega arith)
@@ -312,36 +312,37 @@ module _ (most : Limits) (ds : List Definition) (n : ℕ) where
         let some = s.1.0 in
         let few = s.1.1 in (refl, (omega arith, omega arith))
 
-    new_shaped : (x k : ℕ) → 0 < k → k ≤ 8 → Shaped (Cell (Univ x) (variables_from (m + 1) k))
+    new_shaped : (x k : ℕ) → 0 < k → k ≤ most.arguments → Shaped (Cell (Univ x) (variables_from (m + 1) k))
     new_shaped x k some few =
         let e = length-variables_from (m + 1) k in (refl, (omega arith, omega arith))
 
-    command_nearly : (c : Command) → MayStandAt n i c → OnPremises P (command_answer most i a m c)
-    command_nearly Stop l = tt
-    command_nearly (Goto j) l = limited_nearly most ds n (one (at_line j a a)) (state_ready j a l shaped, tt)
-    command_nearly (IfEq t u j) l =
+    command_nearly : (c : Command) → MayStandAt n i c → IsCommandWithin most c
+        → OnPremises P (command_answer most i a m c)
+    command_nearly Stop l w = tt
+    command_nearly (Goto j) l w = limited_nearly most ds n (one (at_line j a a)) (state_ready j a l shaped, tt)
+    command_nearly (IfEq t u j) l w =
         limited_nearly most ds n (two (at_line j a (with_atom a (Eq t u)))
         (at_line (i + 1) a (with_atom a (Neq t u)))) (
           state_ready j (with_atom a (Eq t u)) l.1 shaped,
           (state_ready (i + 1) (with_atom a (Neq t u)) (next l.0) shaped, tt),
         )
-    command_nearly (IfNeq t u j) l =
+    command_nearly (IfNeq t u j) l w =
         limited_nearly most ds n (two (at_line j a (with_atom a (Neq t u)))
         (at_line (i + 1) a (with_atom a (Eq t u)))) (
           state_ready j (with_atom a (Neq t u)) l.1 shaped,
           (state_ready (i + 1) (with_atom a (Eq t u)) (next l.0) shaped, tt),
         )
-    command_nearly (IfAny j) l =
+    command_nearly (IfAny j) l w =
         limited_nearly most ds n (two (at_line j a a) (at_line (i + 1) a a))
         (state_ready j a l.1 shaped, (state_ready (i + 1) a (next l.0) shaped, tt))
-    command_nearly (Assign x t) l =
+    command_nearly (Assign x t) l w =
         limited_nearly most ds n (one (at_line (i + 1) a
         (with_atom (renamed x m a) (Eq (Univ x) (renamed_term x m t))))) (
           state_ready (i + 1) (with_atom (renamed x m a) (Eq (Univ x) (renamed_term x m t))) (next l)
               (renamed_shaped x),
           tt,
         )
-    command_nearly (Load x t k) l =
+    command_nearly (Load x t k) l w =
         finds_gives (OnPremises P) bad (cell_of a.pure t a.spatial) NoCell _ (λ c found.
         finds_gives (OnPremises P) bad (counted_from_one c.fields k) NoCell _ (λ f field.
         limited_nearly most ds n (one (at_line (i + 1) a
@@ -350,7 +351,7 @@ module _ (most : Limits) (ds : List Definition) (n : ℕ) where
               (renamed_shaped x),
           tt,
         )))
-    command_nearly (Store t k u) l =
+    command_nearly (Store t k u) l w =
         finds_gives (OnPremises P) bad (cell_of a.pure t a.spatial) NoCell _ (λ c found.
         finds_gives (OnPremises P) bad (counted_from_one c.fields k) NoCell _ (λ f field.
         limited_nearly most ds n (one (at_line (i + 1) a (with_field a c k u))) (
@@ -359,14 +360,14 @@ module _ (most : Limits) (ds : List Definition) (n : ℕ) where
               (field_shaped c (k - 1) u (cell_shaped t c found)) shaped),
           tt,
         )))
-    command_nearly (New x k) l =
+    command_nearly (New x k) l w =
         limited_nearly most ds n (one (at_line (i + 1) a (with_cell (renamed x m a) x (variables_from (m + 1) k)))) (
           state_ready (i + 1) (with_cell (renamed x m a) x (variables_from (m + 1) k)) (next l.0)
               (each_append Shaped (renamed x m a).spatial (Cell (Univ x) (variables_from (m + 1) k) ∷ [])
-              (renamed_shaped x) (new_shaped x k l.1.0 l.1.1, tt)),
+              (renamed_shaped x) (new_shaped x k l.1.0 w, tt)),
           tt,
         )
-    command_nearly (Free t) l =
+    command_nearly (Free t) l w =
         finds_gives (OnPremises P) bad (cell_of a.pure t a.spatial) NoCell _ (λ c found.
         limited_nearly most ds n (one (record {
           judgement = Runs (i + 1) (without_spatial c.place a);
@@ -383,9 +384,9 @@ module _ (most : Limits) (ds : List Definition) (n : ℕ) where
         ))
 
 pub rule_nearly : (most : Limits) (ds : List Definition) (lines : List Command) (j : Judgement) (rule : Rule)
-    → Each (IsDefinitionWithin most ds) ds → IsProgram lines → IsJudgementWithin most ds (length lines) j
-    → IsRuleWithin most ds rule → OnPremises (IsNearly most ds (length lines)) (rule_answer most ds lines j rule)
-rule_nearly most ds lines j rule d g h = by rule
+    → Each (IsDefinitionWithin most ds) ds → IsProgram lines → Each (IsCommandWithin most) lines
+    → IsJudgementWithin most ds (length lines) j → IsRuleWithin most ds rule → OnPremises (IsNearly most ds (length lines)) (rule_answer most ds lines j rule)
+rule_nearly most ds lines j rule d g wide h = by rule
   where
     n : ℕ
     n = length lines
@@ -398,6 +399,10 @@ rule_nearly most ds lines j rule d g h = by rule
 
     s : IsSmall most ds (antecedent j)
     s = small most ds (antecedent j) (first_heap (IsHeapWithin most ds) j h.heaps)
+
+    command_at : (i : ℕ) (c : Command) → counted_from_one lines i ≡ Some c → IsCommandWithin most c
+    command_at zero c at = absurd cc
+    command_at (suc i) c at = each_at (IsCommandWithin most) lines i c at wide
 
     same : (i : Judgement) → j ≡ i → IsJudgementWithin most ds n i
     same i e = subst (λ i. IsJudgementWithin most ds n i) e h
@@ -483,7 +488,7 @@ rule_nearly most ds lines j rule d g h = by rule
         runs_gives S faulty j _ (λ i a e.
         finds_gives S faulty (counted_from_one lines i) WrongJudgement _ (λ c at.
         let w = same (Runs i a) e in command_nearly most ds n i a (fresh_number (program_variables lines) j) w.heaps.0 c
-        (g.commands i c at)))
+        (g.commands i c at) (command_at i c at)))
     by (Drop k) r =
         runs_gives S faulty j _ (λ i a e.
         finds_gives S faulty (slice_get a.spatial k) NoSuchAtom _ (λ x at.

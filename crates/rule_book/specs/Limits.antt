@@ -1,11 +1,13 @@
 -- What may stand in a proof file of a version with these limits.
 use Rattle.std.specs.Prelude.{◌≡◌, ℕ, ◌<◌, ◌≤◌, ◌^◌, List, length, true, None}
 use Rattle.cyc_basics.specs.declared.limits.Limits.{Limits}
-use Rattle.cyc_basics.specs.declared.limits.TheConstants.{GREATEST_VARIABLE, MOST_ARGUMENTS, MOST_DISJUNCTS}
+use Rattle.cyc_basics.specs.declared.limits.TheConstants.{GREATEST_VARIABLE, MOST_DISJUNCTS}
 use Rattle.cyc_basics.specs.declared.limits.TheConstants.{VARIABLE_NUMBERS}
 use Rattle.heap_formula.specs.declared.terms.Term.{Term}
 use Rattle.heap_formula.specs.declared.atoms.Spatial.{Spatial}
 use Rattle.heap_formula.specs.declared.atoms.Spatial.TheVariants.{Cell, Pred}
+use Rattle.heap_formula.specs.declared.commands.Command.{Command}
+use Rattle.heap_formula.specs.declared.commands.Command.TheVariants.{New}
 use Rattle.heap_formula.specs.declared.judgements.Judgement.{Judgement}
 use Rattle.heap_formula.specs.declared.judgements.Judgement.TheVariants.{Entail, Term as Runs}
 use Rattle.heap_formula.specs.declared.judgements.Premise.{Premise}
@@ -28,18 +30,18 @@ use Rattle.rule_table.specs.Answer.{number_bound, heaps_of, is_short, has_number
 
 -- ---- heaps and judgements
 
--- a cell has one to eight fields
-abbrev pub HasFields : Spatial → Type 0
-HasFields (Cell t ts) = (0 < length ts) × (length ts ≤ MOST_ARGUMENTS)
-HasFields (Pred q ts) = Unit {0}
+-- a cell has one field at least, and no more than the version allows
+abbrev pub HasFields : Limits → Spatial → Type 0
+HasFields most (Cell t ts) = (0 < length ts) × (length ts ≤ most.arguments)
+HasFields most (Pred q ts) = Unit {0}
 
 -- a heap outside definitions: no more atoms than the version allows, variables up to number 65,534, known predicates
--- with their numbers of arguments, and cells of one to eight fields
+-- with their numbers of arguments, and cells with as many fields as the version allows
 pub record IsHeapWithin (most : Limits) (ds : List Definition) (a : SymbolicHeap) : Type 0 where
   pub short : is_short most a ≡ true
   pub numbers : has_numbers a ≡ true
   pub known : case_fault ds a ≡ None
-  pub fields : Each HasFields a.spatial
+  pub fields : Each (HasFields most) a.spatial
 
 -- one to sixteen disjuncts; or one of so many lines
 abbrev pub IsFormWithin : ℕ → Judgement → Type 0
@@ -69,6 +71,13 @@ pub record IsDefinitionWithin (most : Limits) (ds : List Definition) (d : Defini
   pub some_case : 0 < length d.cases
   pub few : length d.cases ≤ most.cases
   pub cases : Each (IsCaseWithin most ds d.arity) d.cases
+
+-- ---- lines
+
+-- a new cell has no more fields than the version allows
+abbrev pub IsCommandWithin : Limits → Command → Type 0
+IsCommandWithin most (New x k) = k ≤ most.arguments
+IsCommandWithin most _ = Unit {0}
 
 -- ---- reasons
 

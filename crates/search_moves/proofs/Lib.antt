@@ -12,3 +12,4 @@ mod OneDisjunct
 pub mod Rest
 pub mod FoldPlaces
 pub mod Keeping
+pub mod Parameters

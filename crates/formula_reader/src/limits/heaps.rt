@@ -6,25 +6,25 @@ ghost use Rattle.rule_book.specs.Limits.{IsHeapWithin};
 ghost use Rattle.formula_reader.specs.Excess.{has_fields as has, is_use, heap_excess as excess_of};
 
 use crate::limits::excess::HeapExcess;
-use cyc_basics::limits::VARIABLE_NUMBERS;
+use cyc_basics::limits::{Limits, VARIABLE_NUMBERS};
 use heap_formula::{Def, Heap, Spatial, Variables, bound_in_heap};
 use pred_defs::Defs;
 use rule_table::is_short;
 
-fn has_fields(atom: &Spatial) -> bool
-    ensures { result ≡ has atom.now }
+fn has_fields(most: Limits, atom: &Spatial) -> bool
+    ensures { result ≡ has most atom.now }
 {
     match atom {
-        Spatial::Cell(_, args) => args.len() > 0,
+        Spatial::Cell(_, args) => args.len() > 0 && args.len() <= most.arguments as usize,
         Spatial::Pred(_, _) => true,
     }
 }
 
-fn have_fields(atoms: &[Spatial]) -> bool
-    ensures { result ≡ list_all has atoms.now }
+fn have_fields(most: Limits, atoms: &[Spatial]) -> bool
+    ensures { result ≡ list_all (has most) atoms.now }
 {
     for atom in atoms {
-        if !has_fields(atom) {
+        if !has_fields(most, atom) {
             return false;
         }
     }
@@ -75,7 +75,7 @@ fn first_excess(defs: &Defs, heap: &Heap) -> Option<HeapExcess>
     if !are_known(defs.as_slice(), heap.spatial()) {
         return Some(HeapExcess::Predicate);
     }
-    if !have_fields(heap.spatial()) {
+    if !have_fields(defs.most(), heap.spatial()) {
         return Some(HeapExcess::Fields);
     }
     None
