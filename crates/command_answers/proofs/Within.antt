@@ -30,7 +30,7 @@ module _ (most : Limits) (all : List Definition) where
   is_case : (k : ℕ) (a : SymbolicHeap) → IsCaseWithin most all k a → IsCase k a
   is_case k a within = (
     in_heap_each (IsBelow k) (IsParameterBelow k) (parameter_below k) a (heap_below k a within.parameters),
-    each_imply HasFewFields HasFields has_fields a.spatial within.heap.fields,
+    each_imply (HasFewFields most) HasFields (has_fields most) a.spatial within.heap.fields,
   )
 
   -- the cases of definitions within the limits are cases of their predicates
@@ -44,6 +44,6 @@ module _ (most : Limits) (all : List Definition) where
   pub antecedent_fields : (count : ℕ) (j : Judgement) → IsJudgementWithin most all count j
       → Each HasFields (antecedent j).spatial
   antecedent_fields count (Entail a bs)
-      within = each_imply HasFewFields HasFields has_fields a.spatial within.heaps.0.fields
+      within = each_imply (HasFewFields most) HasFields (has_fields most) a.spatial within.heaps.0.fields
   antecedent_fields count (Runs i a)
-      within = each_imply HasFewFields HasFields has_fields a.spatial within.heaps.0.fields
+      within = each_imply (HasFewFields most) HasFields (has_fields most) a.spatial within.heaps.0.fields

@@ -110,7 +110,7 @@ module _ (limit : Limits) (ds : List Definition) where
     short = true_prop (is_short limit a) p.short q.short i;
     numbers = true_prop (has_numbers a) p.numbers q.numbers i;
     known = none_prop (case_fault ds a) p.known q.known i;
-    fields = each_prop (HasFields most) (fields_prop most) a.spatial p.fields q.fields i;
+    fields = each_prop (HasFields limit) (fields_prop limit) a.spatial p.fields q.fields i;
   }
 
   judgement_prop : (count : ℕ) (j : Judgement) → IsProp (IsJudgementWithin limit ds count j)

@@ -52,6 +52,7 @@ use Rattle.rule_table.specs.Tests.{address_of, ascend_from, has_number}
 use Rattle.rule_table.proofs.Commands.{found_is}
 use Rattle.rule_table.proofs.Rewrites.{Each-without}
 use Rattle.rule_book.specs.Limits.{IsHeapWithin, IsJudgementWithin, IsCaseWithin, IsDefinitionWithin, IsRuleWithin}
+use Rattle.rule_book.specs.Limits.{IsCommandWithin}
 use Rattle.rule_book.proofs.Gives.{needs_gives, finds_gives, entails_gives, single_gives, runs_gives}
 use Rattle.rule_book.proofs.Heaps.{length-without, IsLow, IsShaped, IsSmall, small, within, within_after, shapes_after}
 use Rattle.rule_book.proofs.Heaps.{low_pures_after, low_spatials_after}
