@@ -209,6 +209,26 @@ MODELS = [
     (model(stored(0), 4), 3, b"unreadable syntax token 2 line 1 column 15"),
 ]
 
+def counter(bits):
+    """A predicate of so many bits, and of the term that stands for 1, which counts up to the greatest number; it begins at 0."""
+    names = [f"b{i}" for i in range(bits)]
+    cases = []
+    for i in range(bits):
+        pure = [f"{name} = one" for name in names[:i]] + [f"b{i} = nil", "one != nil"]
+        later = ["nil"] * i + ["one", *names[i + 1 :], "one"]
+        cases.append(f"{', '.join(pure)} : count({', '.join(later)})")
+    cases.append(", ".join(f"{name} = one" for name in names) + ", one != nil : emp")
+    zero = ", ".join(["nil"] * bits + ["x"])
+    return f"pred count({', '.join([*names, 'one'])}) {{ {' | '.join(cases)} }};\ngoal true : count({zero}) |- true : emp;\nend;\n"
+
+
+# 12 bits take 4,096 base pairs.
+COUNTED = [
+    (problem(counter(7), 1), 0, b"satisfiable"),
+    (problem(counter(12)), 0, b"satisfiable"),
+    at_token(problem(counter(12), 2), 5, "limit arguments", 4 + 3 + 2 * 8),
+]
+
 # What is written has the version for the problem's.
 REFUTED = [
     (problem("goal true : emp |- a = nil : emp;\nend;\n"), 0, model("stack 1;\nheap;\nask true : emp;\nend;\n")),
@@ -226,5 +246,7 @@ def rows():
         yield "prove --depth 1", text, status, line
     for text, status, line in MODELS:
         yield "model", text, status, line
+    for text, status, line in COUNTED:
+        yield "sat", text, status, line
     for text, status, written in REFUTED:
         yield "disprove --cells 1", text, status, written
