@@ -381,6 +381,12 @@ said_within tree text right most ds lines judgement limit definitions program go
     x lines judgement) (sym definitions) with_lines in
     subst (λ (x : Limits). IsProblemWithin tree.version x ds lines judgement) (sym limit) with_definitions
 
+-- a command of a version's text is within its limits
+pub command_within : (version : Version) (most : Limits) (c : Command) → IsCommandOf version most c
+    → IsCommandWithin most c
+command_within version most (New x k) h = h
+command_within version most c h = tt
+
 -- what a problem keeps
 pub problem_keeps : (p : ProblemValue) → IsProblemWithin p.version p.defs.most p.defs.list p.program p.goal
 problem_keeps p = ∥∥₁_elim p.within (within_prop p.version p.defs.most p.defs.list p.program p.goal) (λ w. w)
