@@ -34,9 +34,8 @@ FOUND = [
     ("true : x -> (u') * list(u') * list(y)", "true : list(y)", ["x -> (u') * list(u')"]),
     ("x != nil : lists(x)", "true : x -> (n', h')", ["list(h') * lists(n')"]),
     ("x != nil : lists(x)", "true : x -> (n', h') * list(h')", ["lists(n')"]),
-    # the first and the last cell of a doubly linked list, and the last one of a segment
+    # the first cell of a doubly linked list, and the last one of a segment
     ("x != z : dll(x, w, z, v)", "true : x -> (n', w)", ["dll(n', x, z, v)"]),
-    ("x != z : dll(x, w, z, v)", "true : v -> (z, p')", ["dll(x, w, v, p')"]),
     ("x != y : ls(x, y)", "true : w' -> (y)", ["ls(x, w')"]),
     # at a pointer into a structure
     ("true : ls(x, y) * y -> (z) * ls(z, nil)", "true : y -> (z)", ["ls(x, y) * ls(z, nil)"]),
