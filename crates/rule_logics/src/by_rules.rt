@@ -8,8 +8,8 @@ use cyc_basics::memory::OutOfMemory;
 use logics::{Logic, Refused, Subgoal, TracePairs};
 use std::alloc::Global;
 
-/// The positions from which on none is followed.
-const MOST_POSITIONS: u8 = 32;
+/// How many positions traces may follow, from 0 on.
+const FOLLOWED_POSITIONS: u8 = 32;
 
 /// A logic of rules, with links to nodes that state the same.
 #[derive(Drop)]
@@ -35,7 +35,7 @@ fn positions_of<T: RuleLogic>(
     ensures { IfOk result (λ v. v.items ≡ positions_of (T.rules logic.now) judgement.now) }
 {
     let mut positions = Vec::new(alloc);
-    for position in 0..MOST_POSITIONS {
+    for position in 0..FOLLOWED_POSITIONS {
         let follows = logic.is_followed(judgement, position);
         push_if(&mut positions, position, follows)?;
     }
@@ -45,7 +45,7 @@ fn positions_of<T: RuleLogic>(
 fn is_position<T: RuleLogic>(logic: &T, judgement: &T::Judgement, position: u8) -> bool
     ensures { result ≡ is_position (T.rules logic.now) judgement.now position }
 {
-    position < MOST_POSITIONS && logic.is_followed(judgement, position)
+    position < FOLLOWED_POSITIONS && logic.is_followed(judgement, position)
 }
 
 /// The pairs whose positions traces follow.
