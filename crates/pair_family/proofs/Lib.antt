@@ -28,3 +28,5 @@ pub mod Interned
 pub mod Sized
 pub mod Relabelling
 pub mod Near
+pub mod Masks
+pub mod MaskBits

@@ -1,5 +1,6 @@
 -- What `==` computes of two base pairs.
-use Rattle.std.specs.Prelude.{◌≡◌, ℕ, Bool, true, ◌++◌, ◌&&◌, ◌+◌, ◌*◌, ◌%◌, ◌^◌, List, [], ◌∷◌, nat_eq, refl}
+use Rattle.std.specs.Prelude.{◌≡◌, ℕ, Bool, true, ◌++◌, ◌&&◌, ◌+◌, ◌*◌, ◌%◌, ◌^◌, ◌-◌, ◌/◌, List, [], ◌∷◌, nat_eq, refl}
+use Rattle.std.specs.Prelude.{nat_lt, if◌then◌else◌}
 use Rattle.std.proofs.Common.{subst, ap}
 use Rattle.std.proofs.lemmas.Bool.{and_parts, and_from, eqb-true, eq-eqb}
 use Rattle.std.specs.Bool.{Decides}
@@ -25,6 +26,15 @@ two_same x y h =
 
 two_refl : (x : ℕ × ℕ) → two_eq x x ≡ true
 two_refl x = and_from (nat_eq x.0 x.0) (nat_eq x.1 x.1) (eq-eqb x.0 x.0 refl) (eq-eqb x.1 x.1 refl)
+
+pub pairs_decide : (xs ys : List (ℕ × ℕ)) → Decides (pointwise two_eq xs ys) (xs ≡ ys)
+pairs_decide xs ys = (
+  pointwise_is two_eq two_same xs ys,
+  λ e. subst (λ z. pointwise two_eq xs z ≡ true) e (pointwise_self two_eq two_refl xs),
+)
+
+pub pairs_per : IsPartialEquivalence (pointwise two_eq)
+pairs_per = partial_equiv_from_equiv (decided (pointwise two_eq) pairs_decide)
 
 pub pair_same : (a b : BasePair) → base_pair_eq a b ≡ true → a ≡ b
 pair_same a b h =
@@ -66,9 +76,13 @@ digest_from h (n ∷ ns) = digest_from (with_number h n) ns
 abbrev pub numbers_digest : List ℕ → ℕ
 numbers_digest ns = digest_from 0 ns
 
+-- what a pair adds to a digest of pairs: the bit that it has in a mask, if it has one
+abbrev pub pair_weight : ℕ × ℕ → ℕ
+pair_weight q = if nat_lt q.0 q.1 && nat_lt q.1 11 then 2 ^ (q.1 * (q.1 - 1) / 2 + q.0) else with_number (with_number 0 q.0) q.1
+
 abbrev pub pairs_digest_from : ℕ → List (ℕ × ℕ) → ℕ
 pairs_digest_from h [] = h
-pairs_digest_from h (q ∷ qs) = pairs_digest_from (with_number (with_number h q.0) q.1) qs
+pairs_digest_from h (q ∷ qs) = pairs_digest_from ((h + pair_weight q) % 2 ^ 64) qs
 
 abbrev pub pairs_digest : List (ℕ × ℕ) → ℕ
 pairs_digest qs = pairs_digest_from 0 qs

@@ -14,3 +14,5 @@ pub mod JoinOrder
 pub mod LargeCases
 pub mod Equality
 pub mod Labels
+pub mod Masks
+pub mod PairForms

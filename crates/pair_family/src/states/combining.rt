@@ -4,10 +4,33 @@ ghost use Rattle.pair_family.specs.Labels.{said_by, labels_at, combined_pairs, c
 
 use crate::states::known::Known;
 use crate::states::labels::{
-    are_apart, cell_numbers, differences_then, join_both, labels_of, numbers_then, same_pairs,
+    are_apart, cell_numbers, fill_differences, fill_labels, fill_numbers, join_both,
 };
-use crate::states::near::differing_pairs;
+use crate::states::near::differing_set;
+use crate::states::pairs::same_set;
 use std::alloc::{AllocError, Global};
+
+/// Lists that are used again for each combination.
+#[derive(Drop)]
+pub struct Lists {
+    labels: Vec<u64>,
+    cells: Vec<usize>,
+    addresses: Vec<u64>,
+    differences: Vec<(u64, u64)>,
+    kept: Vec<u64>,
+}
+
+impl Lists {
+    pub fn new(alloc: Global) -> Lists {
+        Lists {
+            labels: Vec::new(alloc),
+            cells: Vec::new(alloc),
+            addresses: Vec::new(alloc),
+            differences: Vec::new(alloc),
+            kept: Vec::new(alloc),
+        }
+    }
+}
 
 /// What is said of labels.
 fn say(
@@ -18,15 +41,16 @@ fn say(
 ) -> Result<Known, AllocError>
     ensures { IfOk result (λ k. k ≡ said_by labels.now differences.now cells.now) }
 {
-    let same = same_pairs(alloc, labels)?;
-    let differ = differing_pairs(alloc, labels, differences)?;
+    let same = same_set(alloc, labels)?;
+    let differ = differing_set(alloc, labels, differences)?;
     let cells = cell_numbers(alloc, labels, cells)?;
-    Ok(Known::new(same, differ, cells))
+    Ok(Known::of_sets(same, differ, cells))
 }
 
 /// What is said of labels, those of some numbers, unless a difference is within a class.
 fn tell(
     alloc: Global,
+    kept_labels: &mut Vec<u64>,
     labels: &[u64],
     differences: &[(u64, u64)],
     cells: &[u64],
@@ -38,9 +62,44 @@ fn tell(
     if !are_apart(differences) {
         return Ok(None);
     }
-    let kept_labels = labels_of(alloc, labels, kept)?;
-    let known = say(alloc, &kept_labels, differences, cells)?;
+    fill_labels(kept_labels, labels, kept)?;
+    let known = say(alloc, kept_labels, differences, cells)?;
     Ok(Some(known))
+}
+
+/// What is known of some numbers after a base pair of the numbers at some places, unless a difference is within a
+/// class. The lists may be any.
+pub fn combine_in(
+    alloc: Global,
+    lists: &mut Lists,
+    start: &[u64],
+    state: &Known,
+    places: &[usize],
+    pair: &Known,
+    kept: &[usize],
+) -> Result<Option<Known>, AllocError>
+    ensures { IfOk result (IfApart (combined_pairs start.now state.now places.now pair.now)
+        (combined start.now state.now places.now pair.now kept.now)) }
+{
+    join_both(&mut lists.labels, start, state.same(), places, pair.same())?;
+    fill_numbers(&mut lists.cells, state.cells(), places, pair.cells())?;
+    fill_labels(&mut lists.addresses, &lists.labels, &lists.cells)?;
+    fill_differences(
+        &mut lists.differences,
+        &lists.labels,
+        state.differ(),
+        places,
+        pair.differ(),
+        &lists.addresses,
+    )?;
+    tell(
+        alloc,
+        &mut lists.kept,
+        &lists.labels,
+        &lists.differences,
+        &lists.addresses,
+        kept,
+    )
 }
 
 /// What is known of some numbers after a base pair of the numbers at some places, unless a difference is within a
@@ -56,16 +115,8 @@ pub fn combine(
     ensures { IfOk result (IfApart (combined_pairs start.now state.now places.now pair.now)
         (combined start.now state.now places.now pair.now kept.now)) }
 {
-    let labels = join_both(alloc, start, state.same(), places, pair.same())?;
-    let cells = numbers_then(alloc, state.cells(), places, pair.cells())?;
-    let addresses = labels_of(alloc, &labels, &cells)?;
-    let differences = differences_then(
-        alloc,
-        &labels,
-        state.differ(),
-        places,
-        pair.differ(),
-        &addresses,
-    )?;
-    tell(alloc, &labels, &differences, &addresses, kept)
+    let mut lists = Lists::new(alloc);
+    let combined = combine_in(alloc, &mut lists, start, state, places, pair, kept);
+    drop(lists);
+    combined
 }

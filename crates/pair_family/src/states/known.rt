@@ -1,51 +1,17 @@
 // What is known of some terms.
 ghost use Rattle.std.specs.Prelude.{◌≡◌, ◌<◌, ◌+◌, MatchOption};
-ghost use Rattle.pair_family.specs.Equality.{with_number, numbers_digest, pairs_digest};
 
-use cyc_basics::memory::OutOfMemory;
-use std::alloc::Global;
+use crate::states::digests::digest_of;
+use crate::states::pairs::PairSet;
 use std::hash::{Hash, Hasher};
 use std::marker::Model;
-
-/// An odd number whose bits are mixed: 2^64 over the golden ratio.
-const DIGEST_FACTOR: u64 = 0x9e37_79b9_7f4a_7c15;
-
-/// A digest after one more number.
-fn digest_with(digest: u64, number: u64) -> u64
-    ensures { result ≡ with_number digest number }
-{
-    digest.wrapping_add(number).wrapping_mul(DIGEST_FACTOR)
-}
-
-/// A digest of numbers, in their order.
-fn digest_of(numbers: &[usize]) -> u64
-    ensures { result ≡ numbers_digest numbers.now }
-{
-    let mut digest = 0;
-    for number in numbers {
-        digest = digest_with(digest, *number as u64);
-    }
-    digest
-}
-
-/// A digest of pairs, in their order.
-fn digest_of_pairs(pairs: &[(usize, usize)]) -> u64
-    ensures { result ≡ pairs_digest pairs.now }
-{
-    let mut digest = 0;
-    for pair in pairs {
-        let (left, right) = *pair;
-        digest = digest_with(digest_with(digest, left as u64), right as u64);
-    }
-    digest
-}
 
 /// A base pair: which of nil and the parameters of a predicate are equal, which differ, and which are cells; or the
 /// same of the terms that are kept, by number.
 #[derive(Drop)]
 pub struct Known {
-    same: Vec<(usize, usize)>,
-    differ: Vec<(usize, usize)>,
+    same: PairSet,
+    differ: PairSet,
     cells: Vec<usize>,
 }
 
@@ -54,7 +20,7 @@ impl Model for Known {
 
     ghost Value = { BasePair };
 
-    ghost view = { λ k. record { same = k.same.items; differ = k.differ.items; cells = k.cells.items } };
+    ghost view = { λ k. record { same = k.same; differ = k.differ; cells = k.cells.items } };
 }
 
 impl PartialEq for Known {
@@ -84,8 +50,8 @@ impl Hash for Known {
     ghost respects_eq = { base_pair_alike };
 
     fn hash<H: Hasher>(&self, state: &mut H) {
-        digest_of_pairs(&self.same).hash(state);
-        digest_of_pairs(&self.differ).hash(state);
+        self.same.digest().hash(state);
+        self.differ.digest().hash(state);
         digest_of(&self.cells).hash(state);
     }
 }
@@ -97,6 +63,13 @@ impl Known {
     pub fn new(same: Vec<(usize, usize)>, differ: Vec<(usize, usize)>, cells: Vec<usize>) -> Known
         ensures { result ≡ record { same = same.items; differ = differ.items; cells = cells.items } }
     {
+        Known::of_sets(PairSet::from_list(same), PairSet::from_list(differ), cells)
+    }
+
+    /// The same of pairs as they are held.
+    pub(crate) fn of_sets(same: PairSet, differ: PairSet, cells: Vec<usize>) -> Known
+        ensures { result ≡ record { same = same; differ = differ; cells = cells.items } }
+    {
         Known {
             same,
             differ,
@@ -105,21 +78,21 @@ impl Known {
     }
 
     /// The pairs of numbers of one class, the lesser first.
-    pub fn same(&self) -> &[(usize, usize)]
+    pub(crate) fn same(&self) -> &PairSet
         ensures { result.now ≡ self.now.same }
     {
         &self.same
     }
 
     /// The pairs of numbers whose classes differ, the lesser first.
-    pub fn differ(&self) -> &[(usize, usize)]
+    pub(crate) fn differ(&self) -> &PairSet
         ensures { result.now ≡ self.now.differ }
     {
         &self.differ
     }
 
     /// The least numbers of the classes that are cells.
-    pub fn cells(&self) -> &[usize]
+    pub(crate) fn cells(&self) -> &[usize]
         ensures { result.now ≡ self.now.cells }
     {
         &self.cells

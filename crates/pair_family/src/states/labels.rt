@@ -1,5 +1,5 @@
 // Labels of the terms, equal for terms of one class.
-ghost use Rattle.std.specs.Prelude.{◌≡◌, ◌≢◌, ◌<◌, ◌++◌, ◌∷◌, [], ◌↔◌, IsTrue, if◌then◌else◌, length, map, filter};
+ghost use Rattle.std.specs.Prelude.{◌≡◌, ◌≢◌, ◌<◌, ◌^◌, ◌++◌, ◌∷◌, [], ◌↔◌, IsTrue, if◌then◌else◌, length, map, filter};
 ghost use Rattle.std.specs.Prelude.{slice_index, nat_eq, IfOk};
 ghost use Rattle.std.specs.List.{list_any};
 ghost use Rattle.heap_formula.specs.Words.{Each};
@@ -7,7 +7,10 @@ ghost use Rattle.pair_family.specs.Combination.{upto, pairs_below, each_two};
 ghost use Rattle.pair_family.specs.Labels.{row, has_same, neighbours, has_difference, is_first_label, is_cell_label};
 ghost use Rattle.pair_family.specs.Labels.{relabelled, joined_labels, labels_at, label_pairs, cell_pairs, pairs_at};
 ghost use Rattle.pair_family.specs.Labels.{numbers_at, different_pairs};
+ghost use Rattle.pair_family.specs.Masks.{pairs_in};
 
+use crate::states::masks::first_pair;
+use crate::states::pairs::PairSet;
 use std::alloc::{AllocError, Global};
 
 /// The new label in place of the old one.
@@ -181,7 +184,7 @@ pub fn cell_numbers(alloc: Global, labels: &[u64], cells: &[u64]) -> Result<Vec<
 }
 
 /// The label of a number; 0 past the end.
-fn label_at(labels: &[u64], i: usize) -> u64
+pub fn label_at(labels: &[u64], i: usize) -> u64
     ensures { result ≡ slice_index labels.now i }
 {
     match labels.get(i) {
@@ -211,7 +214,7 @@ fn join_two(labels: &mut Vec<u64>, left: usize, right: usize)
 }
 
 /// The labels after equations between numbers.
-fn join_pairs(labels: &mut Vec<u64>, equations: &[(usize, usize)])
+pub fn join_pairs(labels: &mut Vec<u64>, equations: &[(usize, usize)])
     ensures { labels.new.items ≡ joined_labels labels.old.items equations.now }
 {
     for equation in equations {
@@ -220,8 +223,34 @@ fn join_pairs(labels: &mut Vec<u64>, equations: &[(usize, usize)])
     }
 }
 
+/// The labels after the equations of a mask.
+pub fn join_masked(labels: &mut Vec<u64>, mask: u64)
+    requires { mask < 2 ^ 55 }
+    ensures { labels.new.items ≡ joined_labels labels.old.items (pairs_in mask) }
+{
+    let mut rest = mask;
+    while rest != 0 {
+        let ((left, right), others) = first_pair(rest);
+        join_two(labels, left, right);
+        rest = others;
+    }
+}
+
+/// The labels after the equations of a mask between the numbers at some places.
+pub fn join_masked_places(labels: &mut Vec<u64>, places: &[usize], mask: u64)
+    requires { mask < 2 ^ 55 }
+    ensures { labels.new.items ≡ joined_labels labels.old.items (pairs_at places.now (pairs_in mask)) }
+{
+    let mut rest = mask;
+    while rest != 0 {
+        let ((left, right), others) = first_pair(rest);
+        join_two(labels, place_at(places, left), place_at(places, right));
+        rest = others;
+    }
+}
+
 /// The labels after equations between the numbers at some places.
-fn join_placed(labels: &mut Vec<u64>, places: &[usize], equations: &[(usize, usize)])
+pub fn join_placed(labels: &mut Vec<u64>, places: &[usize], equations: &[(usize, usize)])
     ensures { labels.new.items ≡ joined_labels labels.old.items (pairs_at places.now equations.now) }
 {
     for equation in equations {
@@ -230,22 +259,22 @@ fn join_placed(labels: &mut Vec<u64>, places: &[usize], equations: &[(usize, usi
     }
 }
 
-/// The labels after equations between numbers, and between the numbers at some places.
+/// Sets labels to others after equations between numbers, and between the numbers at some places.
 #[tactic(auto, using(crate::proofs::Rows::joined_append))]
 pub fn join_both(
-    alloc: Global,
+    labels: &mut Vec<u64>,
     start: &[u64],
-    own: &[(usize, usize)],
+    own: &PairSet,
     places: &[usize],
-    others: &[(usize, usize)],
-) -> Result<Vec<u64>, AllocError>
-    ensures { IfOk result (λ v. v.items ≡ joined_labels start.now (own.now ++ pairs_at places.now others.now)) }
+    others: &PairSet,
+) -> Result<(), AllocError>
+    ensures { IfOk result (λ _. labels.new.items ≡ joined_labels start.now (own.now ++ pairs_at places.now others.now)) }
 {
-    let mut labels = Vec::with_capacity(alloc, start.len())?;
+    labels.clear();
     labels.extend_from_slice(start)?;
-    join_pairs(&mut labels, own);
-    join_placed(&mut labels, places, others);
-    Ok(labels)
+    own.join(labels);
+    others.join_at(labels, places);
+    Ok(())
 }
 
 /// Whether no difference joins a label with itself.
@@ -261,19 +290,60 @@ pub fn are_apart(differences: &[(u64, u64)]) -> bool
     true
 }
 
-/// The labels of some numbers.
-pub fn labels_of(alloc: Global, labels: &[u64], numbers: &[usize]) -> Result<Vec<u64>, AllocError>
-    ensures { IfOk result (λ v. v.items ≡ labels_at labels.now numbers.now) }
+/// Sets a list to the labels of some numbers.
+pub fn fill_labels(out: &mut Vec<u64>, labels: &[u64], numbers: &[usize]) -> Result<(), AllocError>
+    ensures { IfOk result (λ _. out.new.items ≡ labels_at labels.now numbers.now) }
 {
-    let mut out = Vec::with_capacity(alloc, numbers.len())?;
+    out.clear();
     for number in numbers {
         out.push(label_at(labels, *number))?;
     }
-    Ok(out)
+    Ok(())
+}
+
+/// The labels of the pairs of a mask.
+pub fn push_masked_pairs(
+    out: &mut Vec<(u64, u64)>,
+    labels: &[u64],
+    mask: u64,
+) -> Result<(), AllocError>
+    requires { mask < 2 ^ 55 }
+    ensures { IfOk result (λ _. out.new.items ≡ out.old.items ++ label_pairs labels.now (pairs_in mask)) }
+{
+    let mut rest = mask;
+    while rest != 0 {
+        let ((left, right), others) = first_pair(rest);
+        out.push((label_at(labels, left), label_at(labels, right)))?;
+        rest = others;
+    }
+    Ok(())
+}
+
+/// The labels of the pairs of a mask, at some places.
+pub fn push_masked_places(
+    out: &mut Vec<(u64, u64)>,
+    labels: &[u64],
+    places: &[usize],
+    mask: u64,
+) -> Result<(), AllocError>
+    requires { mask < 2 ^ 55 }
+    ensures { IfOk result (λ _. out.new.items
+        ≡ out.old.items ++ label_pairs labels.now (pairs_at places.now (pairs_in mask))) }
+{
+    let mut rest = mask;
+    while rest != 0 {
+        let ((left, right), others) = first_pair(rest);
+        out.push((
+            label_at(labels, place_at(places, left)),
+            label_at(labels, place_at(places, right)),
+        ))?;
+        rest = others;
+    }
+    Ok(())
 }
 
 /// The labels of some pairs of numbers.
-fn push_label_pairs(
+pub fn push_label_pairs(
     out: &mut Vec<(u64, u64)>,
     labels: &[u64],
     pairs: &[(usize, usize)],
@@ -327,7 +397,7 @@ fn place_at(places: &[usize], i: usize) -> usize
 }
 
 /// The labels of some pairs of numbers at some places.
-fn push_placed_pairs(
+pub fn push_placed_pairs(
     out: &mut Vec<(u64, u64)>,
     labels: &[u64],
     places: &[usize],
@@ -346,41 +416,40 @@ fn push_placed_pairs(
     Ok(())
 }
 
-/// All differences of labels: the stated ones, of numbers and of the numbers at some places, and those of the cells.
-pub fn differences_then(
-    alloc: Global,
+/// Sets a list to all differences of labels: the stated ones, of numbers and of the numbers at some places, and those of
+/// the cells.
+pub fn fill_differences(
+    out: &mut Vec<(u64, u64)>,
     labels: &[u64],
-    own: &[(usize, usize)],
+    own: &PairSet,
     places: &[usize],
-    others: &[(usize, usize)],
+    others: &PairSet,
     cells: &[u64],
-) -> Result<Vec<(u64, u64)>, AllocError>
-    ensures { IfOk result (λ v. v.items ≡ label_pairs labels.now (own.now ++ pairs_at places.now others.now)
+) -> Result<(), AllocError>
+    ensures { IfOk result (λ _. out.new.items ≡ label_pairs labels.now (own.now ++ pairs_at places.now others.now)
         ++ cell_pairs (slice_index labels.now 0) cells.now) }
 {
-    let mut out = Vec::with_capacity(alloc, own.len().saturating_add(others.len()))?;
-    push_label_pairs(&mut out, labels, own)?;
-    push_placed_pairs(&mut out, labels, places, others)?;
-    push_against(&mut out, cells, label_at(labels, 0))?;
-    push_each_two(&mut out, cells)?;
-    Ok(out)
+    out.clear();
+    own.push_labels(out, labels)?;
+    others.push_labels_at(out, labels, places)?;
+    push_against(out, cells, label_at(labels, 0))?;
+    push_each_two(out, cells)?;
+    Ok(())
 }
 
-/// Some numbers, and others at some places.
-pub fn numbers_then(
-    alloc: Global,
+/// Sets a list to some numbers, and others at some places.
+pub fn fill_numbers(
+    out: &mut Vec<usize>,
     own: &[usize],
     places: &[usize],
     others: &[usize],
-) -> Result<Vec<usize>, AllocError>
-    ensures { IfOk result (λ v. v.items ≡ own.now ++ numbers_at places.now others.now) }
+) -> Result<(), AllocError>
+    ensures { IfOk result (λ _. out.new.items ≡ own.now ++ numbers_at places.now others.now) }
 {
-    let mut out = Vec::with_capacity(alloc, own.len().saturating_add(others.len()))?;
-    for number in own {
-        out.push(*number)?;
-    }
+    out.clear();
+    out.extend_from_slice(own)?;
     for number in others {
         out.push(place_at(places, *number))?;
     }
-    Ok(out)
+    Ok(())
 }

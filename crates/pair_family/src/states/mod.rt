@@ -1,9 +1,12 @@
 //! What is known of the terms of a symbolic heap, its base pairs taken in one atom at a time.
 
 mod combining;
+mod digests;
 mod known;
 mod labels;
+mod masks;
 mod near;
+mod pairs;
 mod states;
 
 pub use combining::combine;

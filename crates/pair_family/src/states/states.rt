@@ -6,7 +6,7 @@ ghost use Rattle.pair_family.specs.LargeCases.{sizes, HasMore};
 ghost use Rattle.pair_family.specs.Tables.{IsDistinct};
 ghost use Rattle.pair_family.specs.Labels.{Gives, Grows, HasRoom, IsAdded, GivesSome, GivesFrom};
 
-use crate::states::combining::combine;
+use crate::states::combining::{Lists, combine_in};
 use crate::states::known::Known;
 use cyc_basics::memory::OutOfMemory;
 use indexmap::IndexSet;
@@ -80,6 +80,7 @@ fn grow(set: &mut IndexSet<Known>, room: usize, known: Known) -> Result<usize, S
 /// Adds what one more base pair gives.
 fn grow_by(
     alloc: Global,
+    lists: &mut Lists,
     set: &mut IndexSet<Known>,
     room: usize,
     step: &AtomStep<'_>,
@@ -94,7 +95,15 @@ fn grow_by(
         (λ d. IsMember d set.old.keys
         ⊎ Gives step.now.numbers.now state.now step.now.places.now step.now.kept.now d pair.now) }
 {
-    match combine(alloc, step.numbers, state, step.places, pair, step.kept)? {
+    match combine_in(
+        alloc,
+        lists,
+        step.numbers,
+        state,
+        step.places,
+        pair,
+        step.kept,
+    )? {
         None => Ok(room),
         Some(known) => grow(set, room, known),
     }
@@ -103,6 +112,7 @@ fn grow_by(
 /// Adds what each of the base pairs gives with a state.
 fn grow_by_each(
     alloc: Global,
+    lists: &mut Lists,
     set: &mut IndexSet<Known>,
     room: usize,
     step: &AtomStep<'_>,
@@ -119,7 +129,7 @@ fn grow_by_each(
 {
     let mut left = room;
     for pair in pairs {
-        left = grow_by(alloc, set, left, step, state, pair)?;
+        left = grow_by(alloc, lists, set, left, step, state, pair)?;
     }
     Ok(left)
 }
@@ -127,6 +137,7 @@ fn grow_by_each(
 /// Adds what each of the base pairs gives with each of the states.
 fn grow_by_all(
     alloc: Global,
+    lists: &mut Lists,
     set: &mut IndexSet<Known>,
     room: usize,
     step: &AtomStep<'_>,
@@ -143,7 +154,7 @@ fn grow_by_all(
 {
     let mut left = room;
     for state in states {
-        left = grow_by_each(alloc, set, left, step, state, pairs)?;
+        left = grow_by_each(alloc, lists, set, left, step, state, pairs)?;
     }
     Ok(left)
 }
@@ -163,7 +174,8 @@ pub fn states_after(
         (GivesFrom step.now.numbers.now states.now step.now.places.now step.now.kept.now pairs.now) }
 {
     let mut set = IndexSet::new(alloc);
-    match grow_by_all(alloc, &mut set, most, step, states, pairs) {
+    let mut lists = Lists::new(alloc);
+    match grow_by_all(alloc, &mut lists, &mut set, most, step, states, pairs) {
         Ok(_) => Ok(set),
         Err(fault) => Err(fault),
     }
