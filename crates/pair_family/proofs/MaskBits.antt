@@ -109,41 +109,53 @@ length_more j =
     length-append (pairs_below j) (row j j)
     ∙ ap (λ z. length (pairs_below j) + z) (length-map (upto j) (λ i. (i, j)) ∙ length_upto j)
 
-above : (n k : ℕ) → length (pairs_below n) ≤ length (pairs_below (k + n))
-above n zero = omega arith
-above n (suc k) = omega (arith, above n k, length_more (k + n))
+above : (n m : ℕ) → n ≤ m → length (pairs_below n) ≤ length (pairs_below m)
+above n zero l =
+    let e : zero ≡ n = omega (arith, l) in
+    subst (λ z. length (pairs_below z) ≤ length (pairs_below zero)) e (omega arith)
+above n (suc m) l =
+    elim (cases_eq n (suc m)) [
+      | inl e ↦ subst (λ z. length (pairs_below n) ≤ length (pairs_below z)) e (omega arith)
+      | inr d ↦
+          (let below = above n m (omega (arith, l, d)) in
+          let more : length (pairs_below (suc m)) ≡ length (pairs_below m) + m = length_more m in
+          omega (arith, below, more))
+    ]
 
 pub few_pairs : (n : ℕ) → n ≤ 11 → length (pairs_below n) ≤ 55
-few_pairs n l =
-    let k : 11 - n + n ≡ 11 = omega (arith, l) in
-    subst (λ z. length (pairs_below n) ≤ length (pairs_below z)) k (above n (11 - n))
+few_pairs n l = above n 11 l
 
-behind : (n k : ℕ) → (ys : List (ℕ × ℕ)) × (pairs_below (k + n) ≡ pairs_below n ++ ys)
-behind n zero = ([], sym (append_none (pairs_below n)))
-  where
-    append_none : (xs : List (ℕ × ℕ)) → xs ++ [] ≡ xs
-    append_none [] = refl
-    append_none (x ∷ xs) = ap (λ z. x ∷ z) (append_none xs)
-behind n (suc k) =
-    let r = behind n k in
-    (r.0 ++ row (k + n) (k + n), ap (λ z. z ++ row (k + n) (k + n)) r.1
-    ∙ append_both (pairs_below n) r.0 (row (k + n) (k + n)))
-  where
-    append_both : (xs ys zs : List (ℕ × ℕ)) → (xs ++ ys) ++ zs ≡ xs ++ (ys ++ zs)
-    append_both [] ys zs = refl
-    append_both (x ∷ xs) ys zs = ap (λ z. x ∷ z) (append_both xs ys zs)
+append_none : (xs : List (ℕ × ℕ)) → xs ++ [] ≡ xs
+append_none [] = refl
+append_none (x ∷ xs) = ap (λ z. x ∷ z) (append_none xs)
+
+append_both : (xs ys zs : List (ℕ × ℕ)) → (xs ++ ys) ++ zs ≡ xs ++ (ys ++ zs)
+append_both [] ys zs = refl
+append_both (x ∷ xs) ys zs = ap (λ z. x ∷ z) (append_both xs ys zs)
+
+-- the pairs below a number go on as those below a greater one
+behind : (n m : ℕ) → n ≤ m → (ys : List (ℕ × ℕ)) × (pairs_below m ≡ pairs_below n ++ ys)
+behind n zero l =
+    let e : n ≡ zero = omega (arith, l) in
+    ([], sym (append_none (pairs_below n) ∙ ap pairs_below e))
+behind n (suc m) l =
+    elim (cases_eq n (suc m)) [
+      | inl e ↦ ([], sym (append_none (pairs_below n) ∙ ap pairs_below e))
+      | inr d ↦
+          (let r = behind n m (omega (arith, l, d)) in
+          (r.0 ++ row m m, ap (λ z. z ++ row m m) r.1 ∙ append_both (pairs_below n) r.0 (row m m)))
+    ]
 
 -- the mask of a question of the pairs has those of which it is true
 pub pairs_of_mask : (p : ℕ × ℕ → Bool) (n : ℕ) → n ≤ 11 → pairs_in (mask_l (map p (pairs_below n)))
     ≡ filter p (pairs_below n)
 unfolding pairs_in
 pairs_of_mask p n l =
-    let k : 11 - n + n ≡ 11 = omega (arith, l) in
-    let r = behind n (11 - n) in
-    let all : pairs_below 11 ≡ pairs_below n ++ r.0 = ap pairs_below (sym k) ∙ r.1 in
-    ap (picked 0 (mask_l (map p (pairs_below n)))) all
-    ∙ picked_filter p 0 (mask_l (map p (pairs_below n))) (pairs_below n) r.0
-    (λ i. one_of_mask (map p (pairs_below n)) i)
+    let r = behind n 11 l in
+    let m : ℕ = mask_l (map p (pairs_below n)) in
+    let z = λ (i : ℕ). let e : 0 + i ≡ i = omega arith in e in
+    ap (picked 0 m) r.1
+    ∙ picked_filter p 0 m (pairs_below n) r.0 (λ i. ap (is_one m) (z i) ∙ one_of_mask (map p (pairs_below n)) i)
 
 pub mask_small : (p : ℕ × ℕ → Bool) (n : ℕ) → n ≤ 11 → mask_l (map p (pairs_below n)) < 2 ^ 55
 mask_small p n l =
@@ -234,9 +246,11 @@ first_of_ones m z l =
       | inl y ↦ bit_at_clear_other w64 m p found.0 j y d
       | inr n ↦ bit_at_above (cleared m p) 55 j less (omega (arith, n)) ∙ sym (bit_at_above m 55 j l (omega (arith, n)))
     ] in r in
+    let at = λ (x i : ℕ). let e : is_one x (0 + i) ≡ is_one x i = (let e : 0 + i ≡ i = omega arith in ap (is_one x) e) in e in
     picked_first 0 m (cleared m p) p (pairs_below 11) (0, 0) place
-    (λ j b. ap (λ x. nat_eq x 1) (found.2 j b)) (ap (λ x. nat_eq x 1) found.1)
-    (ap (λ x. nat_eq x 1) (bit_at_clear_same w64 m p found.0)) (λ j d. ap (λ x. nat_eq x 1) (other j d))
+    (λ j b. at m j ∙ ap (λ x. nat_eq x 1) (found.2 j b)) (at m p ∙ ap (λ x. nat_eq x 1) found.1)
+    (at (cleared m p) p ∙ ap (λ x. nat_eq x 1) (bit_at_clear_same w64 m p found.0))
+    (λ j d. at (cleared m p) j ∙ (ap (λ x. nat_eq x 1) (other j d) ∙ sym (at m j)))
 
 pub pairs_none : pairs_in 0 ≡ []
 unfolding pairs_in
@@ -268,6 +282,7 @@ without_one h p bit low next e b split =
 
 digest_picked : (k m h : ℕ) (xs : List (ℕ × ℕ)) → weighs k xs ≡ true → k + length xs ≤ 64 → h ≡ m % 2 ^ k
     → pairs_digest_from h (picked k m xs) ≡ m % 2 ^ (k + length xs)
+unfolding weighs
 digest_picked k m h [] w l e =
     let n : k ≡ k + 0 = omega arith in
     e ∙ ap (λ z. m % 2 ^ z) n
@@ -298,7 +313,7 @@ digest_picked k m h (q ∷ qs) w l e =
 
 -- a mask is the digest of its pairs
 pub digest_of_mask : (m : ℕ) → m < 2 ^ 55 → pairs_digest (pairs_in m) ≡ m
-unfolding pairs_in
+unfolding pairs_in weighs
 digest_of_mask m l =
     let w : weighs 0 (pairs_below 11) ≡ true = refl in
     let none : 0 ≡ m % 2 ^ 0 = omega arith in

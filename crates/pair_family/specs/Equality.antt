@@ -24,7 +24,7 @@ two_same x y h =
     let a : x.0 ≡ y.0 = eqb-true x.0 y.0 p.0 in
     let b : x.1 ≡ y.1 = eqb-true x.1 y.1 p.1 in λ i. (a i, b i)
 
-two_refl : (x : ℕ × ℕ) → two_eq x x ≡ true
+pub two_refl : (x : ℕ × ℕ) → two_eq x x ≡ true
 two_refl x = and_from (nat_eq x.0 x.0) (nat_eq x.1 x.1) (eq-eqb x.0 x.0 refl) (eq-eqb x.1 x.1 refl)
 
 pub pairs_decide : (xs ys : List (ℕ × ℕ)) → Decides (pointwise two_eq xs ys) (xs ≡ ys)

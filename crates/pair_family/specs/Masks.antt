@@ -9,5 +9,5 @@ picked k mask [] = []
 picked k mask (x ∷ xs) = (if is_one mask k then x ∷ [] else []) ++ picked (suc k) mask xs
 
 -- the pairs of numbers below 11 whose bits are ones; there are 55
-pub pairs_in : ℕ → List (ℕ × ℕ)
+unfoldable pub pairs_in : ℕ → List (ℕ × ℕ)
 pairs_in mask = picked 0 mask (pairs_below 11)
