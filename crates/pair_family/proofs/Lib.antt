@@ -30,3 +30,4 @@ pub mod Relabelling
 pub mod Near
 pub mod Masks
 pub mod MaskBits
+pub mod MaskLoops
