@@ -31,3 +31,4 @@ pub mod Near
 pub mod Masks
 pub mod MaskBits
 pub mod MaskLoops
+pub mod MaskForms

@@ -125,7 +125,7 @@ above n (suc m) l =
 pub few_pairs : (n : ℕ) → n ≤ 11 → length (pairs_below n) ≤ 55
 few_pairs n l = above n 11 l
 
-append_none : (xs : List (ℕ × ℕ)) → xs ++ [] ≡ xs
+pub append_none : (xs : List (ℕ × ℕ)) → xs ++ [] ≡ xs
 append_none [] = refl
 append_none (x ∷ xs) = ap (λ z. x ∷ z) (append_none xs)
 
@@ -385,10 +385,35 @@ ones_of_mask m l =
     let whole : m % 2 ^ 55 ≡ m = omega (arith, l) in
     let low : m % 2 ^ 0 ≡ 0 = omega arith in
     let none : count_ones (m % 2 ^ 0) ≡ 0 = ap count_ones low ∙ ones_none in
-    sym (ap count_ones whole) ∙ (sym (ones_picked 0 m (pairs_below 11)) ∙ ap (λ z. z + length (picked 0 m (pairs_below 11))) none)
+    let some : count_ones (m % 2 ^ 0) + length (picked 0 m (pairs_below 11)) ≡ count_ones (m % 2 ^ 55) = ones_picked 0 m
+    (pairs_below 11) in
+    let all : count_ones (m % 2 ^ 55) ≡ count_ones m = ap count_ones whole in
+    omega (arith, some, all, none)
 
 -- ---- a list against a mask
 
 pub place_fits : (i j : ℕ) → i < j → j < 11 → j * (j - 1) / 2 + i < 55
 place_fits i j l b =
     omega (arith, mul-le j (j - 1) 10 9 (omega (arith, b)) (omega (arith, b)), l, b)
+
+-- ---- what the functions ask
+
+pub none_left : (m : ℕ) → m ≡ 0 → pairs_in m ≡ []
+none_left m e = ap pairs_in e ∙ pairs_none
+
+pub empty_mask : (m : ℕ) → m < 2 ^ 55 → nat_eq m 0 ≡ pointwise two_eq (pairs_in m) []
+empty_mask m l = same_masks m 0 l (omega arith) ∙ ap (pointwise two_eq (pairs_in m)) pairs_none
+
+pub mask_fits : (p : ℕ × ℕ → Bool) (j bits mask one : ℕ) → j < 11 → bits ≡ length (pairs_below j)
+    → mask ≡ mask_l (map p (pairs_below j)) → one ≡ mask_l (map p (row j j)) → mask + one * 2 ^ bits % 2 ^ 64 < 2 ^ 64
+mask_fits p j bits mask one l b m o =
+    let e = mask_more p j bits mask one l b m o in
+    let s = mask_small p (j + 1) (omega (arith, l)) in omega (arith, e, s)
+
+pub whole_within : (p : ℕ × ℕ → Bool) (j mask : ℕ) → j ≤ 11 → mask ≡ mask_l (map p (pairs_below j)) → mask < 2 ^ 55
+whole_within p j mask l m = subst (λ z. z < 2 ^ 55) (sym m) (mask_small p j l)
+
+pub whole_pairs : (p : ℕ × ℕ → Bool) (j n mask : ℕ) → n ≤ 11 → j ≡ n → mask ≡ mask_l (map p (pairs_below j))
+    → pairs_in mask ≡ filter p (pairs_below n)
+whole_pairs p j n mask l e m =
+    ap pairs_in (m ∙ ap (λ z. mask_l (map p (pairs_below z))) e) ∙ pairs_of_mask p n l
