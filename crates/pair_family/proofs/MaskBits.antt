@@ -417,3 +417,7 @@ pub whole_pairs : (p : ℕ × ℕ → Bool) (j n mask : ℕ) → n ≤ 11 → j 
     → pairs_in mask ≡ filter p (pairs_below n)
 whole_pairs p j n mask l e m =
     ap pairs_in (m ∙ ap (λ z. mask_l (map p (pairs_below z))) e) ∙ pairs_of_mask p n l
+
+pub no_entries : (xs : List (ℕ × ℕ)) → length xs ≡ 0 → xs ≡ []
+no_entries [] e = refl
+no_entries (x ∷ xs) e = absurd (omega (arith, e))
