@@ -15,6 +15,12 @@ TWO = ("(declare-sort A 0)(declare-sort B 0)(declare-datatypes ((CA 0) (CB 0)) (
        "(declare-const a A)(declare-const b B)(declare-const d A)")
 
 
+def chain(cells, mark=""):
+    """So many cells, one after the other."""
+    names = "".join(f"(declare-const v{i} L)" for i in range(cells + 1))
+    return SORT + names + f"(assert {mark}(sep " + "".join(f"(pto v{i} (c v{i + 1}))" for i in range(cells)) + "))(check-sat)"
+
+
 def ask(*asserts):
     return HEAD + "".join(f"(assert {a})" for a in asserts) + "(check-sat)"
 
@@ -145,6 +151,7 @@ FAULTS = [
     ("unsupported conjunction", 4, HEAD + "(assert @(or (and (ls x y) (ls y x)) emp))(check-sat)"),
     ("unsupported negation", 4, HEAD + "(assert @(or (not emp) (pto x (c y))))(check-sat)"),
     ("limit arguments", 5, HEAD + "(define-fun-rec p @(" + "".join(f"(a{i} L)" for i in range(9)) + ") Bool emp)"),
+    ("limit spatial", 5, chain(65, "@")),
     ("unreadable syntax", 3, "(declare-sort L 0)@)"),
     ("unreadable syntax", 3, "(declare-sort L 0@"),
     ("unreadable syntax", 3, "(@(declare-sort) L 0)"),
@@ -297,6 +304,12 @@ shows(SORT + LS + f"(declare-const {long} L)(declare-const {other} L)(assert (pt
 shows(SORT + f"(define-fun-rec {long} ((|{other}| L)) Bool (pto {other} (c nil)))(declare-const x L)(assert ({long} x))(check-sat)", "sat", 0)
 many = "".join(f"(declare-const {'n' * 60}{i} L)" for i in range(2_000))
 shows(SORT + many + f"(assert (pto {'n' * 60}7 (c {'n' * 60}1999)))(check-sat)", "sat", 0)
+# a problem is of version 2, and of version 3 where that has no room
+for cells, version in ((32, 2), (33, 3), (64, 3)):
+    shows(chain(cells), "sat", 0)
+    problem = parted(run(SOLVER, chain(cells))[1])[0]
+    if not problem.startswith(f"cyclist problem {version};"):
+        fail(f"{cells} cells become a problem that begins {problem[:18]!r}")
 # no script
 refused("", "unreadable syntax token 0 line 1 column 1", 3)
 refused("; nothing", "unreadable syntax token 0 line 1 column 1", 3)

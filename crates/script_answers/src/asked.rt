@@ -6,7 +6,6 @@ use crate::lines::{answer_to_script_fault, answer_to_unsayable};
 use crate::texts::{ProblemNames, problem_text};
 use cyc_basics::memory::OutOfMemory;
 use cyc_runs::Answer;
-use heap_syntax::Version;
 use script_formulas::goals::{Place, Question, ScriptGoal, ScriptRefusal, goal_of_script};
 use script_reader::{NamedScript, read_script};
 use std::alloc::Global;
@@ -64,7 +63,7 @@ fn asked_script(
     asks: &ScriptGoal,
 ) -> Result<AskedScript, OutOfMemory> {
     let names = names_of(alloc, script, &asks.predicates)?;
-    let text = problem_text(alloc, Version::Two, &asks.defs, &asks.goal, &names)?;
+    let text = problem_text(alloc, asks.version, &asks.defs, &asks.goal, &names)?;
     Ok(AskedScript {
         question: asks.question,
         text,

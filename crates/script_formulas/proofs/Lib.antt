@@ -8,3 +8,7 @@ pub mod Stacks
 pub mod SideSteps
 pub mod Zipping
 pub mod GoalSteps
+pub mod Encoding
+pub mod Transfer
+pub mod SameQuestion
+pub mod GoalLaws

@@ -12,13 +12,13 @@ use Rattle.heap_formula.specs.Words.{Each}
 use Rattle.script_formulas.specs.declared.formula.ScriptAtom.{ScriptAtom}
 use Rattle.script_formulas.specs.Formulas.{Formula, True, False, Empty, Says, Atom, Not, And, Or, Sep, Exists}
 use Rattle.script_formulas.specs.Heaps.{SortedCells}
-use Rattle.script_formulas.specs.Meaning.{SortedFamily, SortedAtomHolds, FormulaHolds, sorted_least}
+use Rattle.script_formulas.specs.Meaning.{SortedFamily, SortedAtomHolds, FormulaHolds, sorted_least, sorted_stage}
 use Rattle.script_formulas.proofs.SortedHeaps.{sorted_map, sorted_star_none, sorted_none_star}
 use Rattle.script_formulas.specs.declared.cases.joining.Way.TheVariants.{Conjunction, Separation}
 use Rattle.script_formulas.specs.Cases.{SymbolicCase, open_case, empty_case, pure_case, atom_case, one_more}
 use Rattle.script_formulas.specs.Cases.{all_one_more}
 use Rattle.script_formulas.specs.Forms.{signed, truth, both_or_one, literals, formula_cases}
-use Rattle.script_formulas.specs.Holding.{AtomsHold, CaseHolds, OneCaseHolds, IsDisjunctiveForm}
+use Rattle.script_formulas.specs.Holding.{AtomsHold, CaseHolds, OneCaseHolds, IsDisjunctiveForm, IsStagedForm}
 use Rattle.script_formulas.specs.Scope.{IsBound, IsBoundFormula, AreFine, bound_term, bound_formula}
 use Rattle.std.specs.List.{list_all}
 use Rattle.std.proofs.lemmas.Bool.{leb-true}
@@ -466,4 +466,11 @@ pub form_holds : (f : Formula) (cs : List SymbolicCase) → bound_formula 0 f �
     → IsDisjunctiveForm f cs
 form_holds f cs b p locations bodies s h =
     let same = cases_hold locations (sorted_least locations bodies) s [] f cs (omega arith) (formula_bound 0 f b) p h in
+    (same.to, same.back)
+
+pub form_staged : (f : Formula) (cs : List SymbolicCase) → bound_formula 0 f ≡ true → formula_cases 0 f ≡ Ok cs
+    → IsStagedForm f cs
+form_staged f cs b p locations bodies n s h =
+    let same = cases_hold locations (sorted_stage locations bodies n) s [] f cs (omega arith) (formula_bound 0 f b) p
+    h in
     (same.to, same.back)

@@ -6,7 +6,7 @@ use Rattle.heap_formula.specs.Words.{Each, OneOf}
 use Rattle.script_formulas.specs.declared.formula.ScriptAtom.{ScriptAtom}
 use Rattle.script_formulas.specs.Formulas.{Formula}
 use Rattle.script_formulas.specs.Heaps.{SortedCells, no_sorted_cells, SortedStar}
-use Rattle.script_formulas.specs.Meaning.{SortedFamily, SortedAtomHolds, FormulaHolds, sorted_least}
+use Rattle.script_formulas.specs.Meaning.{SortedFamily, SortedAtomHolds, FormulaHolds, sorted_least, sorted_stage}
 use Rattle.script_formulas.specs.Cases.{SymbolicCase}
 
 -- the heap splits into one part for each atom
@@ -35,3 +35,10 @@ IsDisjunctiveForm f cs =
     (locations : List ℕ) (bodies : List Formula) (s : Stack) (h : SortedCells)
     → FormulaHolds locations (sorted_least locations bodies) s [] f h
     ↔ OneCaseHolds locations (sorted_least locations bodies) s [] cs h
+
+-- the same at each stage of the predicates
+abbrev pub IsStagedForm : Formula → List SymbolicCase → Type 0
+IsStagedForm f cs =
+    (locations : List ℕ) (bodies : List Formula) (n : ℕ) (s : Stack) (h : SortedCells)
+    → FormulaHolds locations (sorted_stage locations bodies n) s [] f h
+    ↔ OneCaseHolds locations (sorted_stage locations bodies n) s [] cs h

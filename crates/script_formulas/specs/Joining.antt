@@ -3,7 +3,7 @@ use Rattle.std.specs.Prelude.{ℕ, ◌+◌, ◌/◌, max, Bool, not, ◌&&◌, �
 use Rattle.std.specs.Prelude.{length, Option, Some, None, Ok, Err}
 use Rattle.heap_formula.specs.Substitution.{in_pure}
 use Rattle.heap_syntax.specs.Versions.{limits}
-use Rattle.heap_syntax.specs.declared.version.Version.TheVariants.{Two}
+use Rattle.heap_syntax.specs.declared.version.Version.TheVariants.{Three}
 use Rattle.script_formulas.specs.declared.cases.refused.Unsupported.{Unsupported}
 use Rattle.script_formulas.specs.declared.cases.refused.Unsupported.TheVariants as words
 use Rattle.script_formulas.specs.declared.cases.joining.Way.{Way}
@@ -30,8 +30,8 @@ way_refusal Separation first second = if first || second then Some words.OpenPar
 abbrev pub size_refusal : SymbolicCase → SymbolicCase → Option Unsupported
 size_refusal a b =
     if nat_lt 1024 (a.quantified + b.quantified) then Some words.Quantifiers
-    else (if nat_lt (limits Two).pure (length a.pure + length b.pure) then Some words.PureAtoms
-    else (if nat_lt (limits Two).spatial (length a.atoms + length b.atoms) then Some words.HeapAtoms else None))
+    else (if nat_lt (limits Three).pure (length a.pure + length b.pure) then Some words.PureAtoms
+    else (if nat_lt (limits Three).spatial (length a.atoms + length b.atoms) then Some words.HeapAtoms else None))
 
 abbrev pub unless : {A : Type 0} → Option Unsupported → Answer A → Answer A
 unless (Some e) r = Err e

@@ -1,6 +1,7 @@
 pub mod Formulas
 pub mod Heaps
 pub mod Meaning
+pub mod Spread
 pub mod Cases
 pub mod Forms
 pub mod Holding

@@ -1,5 +1,5 @@
 -- Both sides of a script's question.
-use Rattle.std.specs.Prelude.{◌↔◌, ℕ, List, [], map, false}
+use Rattle.std.specs.Prelude.{◌≡◌, ◌↔◌, ℕ, List, [], map, false}
 use Rattle.heap_formula.specs.declared.atoms.Pure.{Pure}
 use Rattle.heap_formula.specs.Values.{Stack}
 use Rattle.heap_formula.specs.Words.{Each}
@@ -9,6 +9,7 @@ use Rattle.script_formulas.specs.Meaning.{FormulaHolds, sorted_least}
 use Rattle.script_formulas.specs.Cases.{SymbolicCase, pure_case}
 use Rattle.script_formulas.specs.Forms.{signed}
 use Rattle.script_formulas.specs.Holding.{CaseHolds, OneCaseHolds}
+use Rattle.script_formulas.specs.Scope.{AreFine}
 
 -- what a formula of an assert says of values and a heap, over any definitions
 abbrev pub Says : List ℕ → List Formula → Stack → SortedCells → Formula → Type 0
@@ -44,3 +45,11 @@ AreWithout cs first second new_first new_second =
 -- the negation of each atom as a case
 abbrev pub negations : List Pure → List SymbolicCase
 negations ps = map (λ p. pure_case (signed false p)) ps
+
+-- each case says something of the heap
+abbrev pub ClosedCases : List SymbolicCase → Type 0
+ClosedCases cs = Each (λ c. c.any_heap ≡ false) cs
+
+-- so do those of what is denied, and each of their variables is bound
+abbrev pub AreDenied : List SymbolicCase → Type 0
+AreDenied cs = AreFine 0 cs × ClosedCases cs

@@ -53,7 +53,7 @@ IsPureOf v (Neq t u) q = (x : Term) × (y : Term) × IsTermOf v t x × IsTermOf 
 abbrev pub IsSpatialOf : Numbers → Variables → ScriptAtom → Spatial → Type 0
 IsSpatialOf numbers v (Cell t c ts) y = (x : Term) × (xs : List Term) × IsTermOf v t x × AreFilled v ts xs
     × (length ts ≡ slice_index numbers.fields.items c) × (length xs ≡ slice_index numbers.widths.items c)
-    × (0 < length xs) × (y ≡ CellAtom x xs)
+    × (0 < length xs) × (y ≡ CellAtom x xs) × (c < length numbers.fields.items)
 IsSpatialOf numbers v (Call p ts) y = (k : ℕ) × (xs : List Term) × IsPlaceOf numbers.predicates.items p k
     × AreTermsOf v ts xs × (y ≡ Pred k xs)
 

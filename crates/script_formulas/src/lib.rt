@@ -5,6 +5,7 @@
 pub mod cases;
 mod formula;
 pub mod goals;
+pub mod laws;
 mod limits;
 pub mod problems;
 mod script;

@@ -7,7 +7,7 @@ ghost use Rattle.script_formulas.specs.Joining.{join_with, join_all, all_of};
 use crate::cases::case::{Case, MOST_QUANTIFIED};
 use crate::cases::refused::{Refused, Unsupported};
 use crate::cases::shifting::{push_atoms, push_pures};
-use crate::limits::problem_limits;
+use crate::limits::widest_limits;
 use std::alloc::Global;
 
 /// Cases of a formula, at most.
@@ -37,7 +37,7 @@ fn size_refusal(a: &Case, b: &Case) -> Option<Unsupported>
     if a.quantified() > MOST_QUANTIFIED || b.quantified() > MOST_QUANTIFIED - a.quantified() {
         return Some(Unsupported::Quantifiers);
     }
-    let limits = problem_limits();
+    let limits = widest_limits();
     let pure = limits.pure as usize;
     if a.pure().len() > pure || b.pure().len() > pure - a.pure().len() {
         return Some(Unsupported::PureAtoms);

@@ -17,13 +17,13 @@ pub enum Unsupported {
     Universal,
     /// A variable that no quantifier binds, or a predicate or constructor that isn't there.
     Unbound,
-    /// Too many cases: more than 4,096 of a formula, more than 256 of a predicate, more than 16 on the right.
+    /// Too many cases: more than 4,096 of a formula or of a predicate, more than 16 on the right.
     Cases,
     /// Too many quantified variables in one case.
     Quantifiers,
-    /// More than 64 pure atoms in one case.
+    /// More than 1,024 pure atoms in one case.
     PureAtoms,
-    /// More than 32 atoms over the heap in one case.
+    /// More than 64 atoms over the heap in one case.
     HeapAtoms,
     /// More than eight fields of a cell, with those that tell it from the other cells.
     Fields,

@@ -3,10 +3,10 @@ ghost use Rattle.std.specs.Prelude.{◌≡◌, [], ◌∷◌, ◌++◌, List, ma
 ghost use Rattle.script_formulas.specs.Formulas.{Formula, formula_of};
 ghost use Rattle.script_formulas.specs.declared.cases.joining.Way.TheVariants.{Conjunction};
 ghost use Rattle.script_formulas.specs.Forms.{signed};
-ghost use Rattle.script_formulas.specs.Holding.{IsDisjunctiveForm};
+ghost use Rattle.script_formulas.specs.Holding.{IsDisjunctiveForm, IsStagedForm};
 ghost use Rattle.script_formulas.specs.Joining.{join_all};
 ghost use Rattle.script_formulas.specs.Scope.{IsFine, AreFine};
-ghost use Rattle.script_formulas.specs.Sides.{AreSides, AreWithout, negations};
+ghost use Rattle.script_formulas.specs.Sides.{AreDenied, AreSides, AreWithout, negations};
 
 use crate::cases::{Case, Refused, Unsupported, Way, disjunctive_form, joined_cases};
 use crate::goals::refusal::{Place, ScriptRefusal, at};
@@ -30,6 +30,7 @@ pub fn cases_at(
 ) -> Result<Vec<Case>, ScriptRefusal>
     ensures fine { IfOk result (λ cs. AreFine 0 cs.items) }
     ensures meaning { IfOk result (λ cs. IsDisjunctiveForm (formula_of formula.now) cs.items) }
+    ensures staged { IfOk result (λ cs. IsStagedForm (formula_of formula.now) cs.items) }
 {
     at(place, disjunctive_form(alloc, formula))
 }
@@ -89,8 +90,10 @@ fn negated(alloc: Global, case: &Case) -> Result<Vec<Case>, Refused>
 impl Sides {
     fn deny_case(&mut self, alloc: Global, place: Place, case: &Case) -> Result<(), ScriptRefusal>
         requires sides { AreFine 0 self.old.asserted.items }
+        requires others { AreDenied self.old.denied.items }
         requires case { IsFine 0 case.now }
         ensures fine { OnOk result (AreFine 0 self.new.asserted.items) }
+        ensures others { OnOk result (AreDenied self.new.denied.items) }
         ensures without { OnOk result (AreWithout (case.now ∷ []) self.old.asserted.items
             self.old.denied.items self.new.asserted.items self.new.denied.items) }
     {
@@ -109,8 +112,10 @@ impl Sides {
         place: Place,
         formula: &ScriptFormula,
     ) -> Result<(), ScriptRefusal>
-        requires { AreFine 0 self.old.asserted.items }
+        requires sides { AreFine 0 self.old.asserted.items }
+        requires others { AreDenied self.old.denied.items }
         ensures fine { OnOk result (AreFine 0 self.new.asserted.items) }
+        ensures others { OnOk result (AreDenied self.new.denied.items) }
         ensures denied { OnOk result ((fs gs : List Formula)
             → AreSides fs gs self.old.asserted.items self.old.denied.items
             → AreSides fs (gs ++ formula_of formula.now ∷ []) self.new.asserted.items
@@ -126,8 +131,10 @@ impl Sides {
 
 /// Both sides of a script's question.
 pub fn sides_of(alloc: Global, script: &Script) -> Result<Sides, ScriptRefusal>
-    ensures { IfOk result (λ sides. AreSides (map formula_of script.now.asserted.items)
+    ensures sides { IfOk result (λ sides. AreSides (map formula_of script.now.asserted.items)
         (map formula_of script.now.denied.items) sides.asserted.items sides.denied.items) }
+    ensures first { IfOk result (λ sides. AreFine 0 sides.asserted.items) }
+    ensures second { IfOk result (λ sides. AreDenied sides.denied.items) }
 {
     let mut sides = Sides {
         asserted: asserted_cases(alloc, script)?,

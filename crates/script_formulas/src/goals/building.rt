@@ -1,13 +1,12 @@
 // Definitions of a problem.
-ghost use Rattle.std.specs.Prelude.{◌≡◌, ◌<◌, [], ◌∷◌, length, IfOk, OnOk};
-ghost use Rattle.heap_syntax.specs.Versions.{limits};
-ghost use Rattle.heap_syntax.specs.declared.version.Version.TheVariants.{Two};
+ghost use Rattle.std.specs.Prelude.{◌≡◌, ◌<◌, [], ◌∷◌, length, vec_len, IfOk, OnOk};
+ghost use Rattle.cyc_basics.specs.Limits.{AreLimits};
 ghost use Rattle.script_formulas.specs.Translating.{impossible};
 ghost use Rattle.script_formulas.specs.Defining.{HasPushed, HasDefined, HasMore};
 
 use crate::cases::{Refused, Unsupported};
 use crate::goals::names::free_name;
-use crate::limits::problem_limits;
+use cyc_basics::limits::Limits;
 use heap_formula::{Args, Heap, Pure, Spatial, Term};
 use pred_defs::Defs;
 use std::alloc::Global;
@@ -57,13 +56,14 @@ fn parameters(count: usize) -> Args {
 }
 
 impl Building {
-    /// No definitions, where so many will come before parts of cases.
-    pub fn new(alloc: Global, most: usize) -> Building
+    /// No definitions, within these limits, where so many will come before parts of cases.
+    pub fn new(alloc: Global, limits: Limits, most: usize) -> Building
+        requires { AreLimits limits }
         ensures { result.defs.list ≡ [] }
     {
         Building {
             alloc,
-            defs: Defs::new(alloc, problem_limits()),
+            defs: Defs::new(alloc, limits),
             names: Vec::new(alloc),
             most,
             parts: Vec::new(alloc),
@@ -79,7 +79,8 @@ impl Building {
 
     /// Keeps a name like this one for the next definition.
     pub fn name(&mut self, wanted: &str) -> Result<(), Refused>
-        ensures { OnOk result (self.new.defs ≡ self.old.defs) }
+        ensures defs { OnOk result (self.new.defs ≡ self.old.defs) }
+        ensures parts { OnOk result (self.new.parts ≡ self.old.parts) }
     {
         let name = free_name(self.alloc, &self.names, wanted)?;
         self.names.push(name)?;
@@ -87,7 +88,8 @@ impl Building {
     }
 
     fn push_few(&mut self, arity: usize, heaps: &[Heap]) -> Result<(), Refused>
-        ensures { OnOk result (HasPushed self.old.defs.list arity heaps.now self.new.defs.list) }
+        ensures pushed { OnOk result (HasPushed self.old.defs.list arity heaps.now self.new.defs.list) }
+        ensures parts { OnOk result (self.new.parts ≡ self.old.parts) }
     {
         let place = self.defs.as_slice().len();
         let Some(name) = self.names.get(place) else {
@@ -126,7 +128,8 @@ impl Building {
         arity: usize,
         heaps: Vec<Heap>,
     ) -> Result<(), Refused>
-        ensures { OnOk result (self.new.defs ≡ self.old.defs) }
+        ensures defs { OnOk result (self.new.defs ≡ self.old.defs) }
+        ensures parts { OnOk result (0 < vec_len self.new.parts) }
     {
         calls.push(self.next_part(arity)?)?;
         let owner = String::from_str(self.alloc, owner)?;
@@ -140,12 +143,13 @@ impl Building {
 
     /// Parts of as many cases as a predicate may have, and the calls of them.
     fn spread(&mut self, owner: &str, arity: usize, heaps: Vec<Heap>) -> Result<Vec<Heap>, Refused>
-        ensures { IfOk result (λ _. self.new.defs ≡ self.old.defs) }
+        ensures defs { IfOk result (λ _. self.new.defs ≡ self.old.defs) }
+        ensures parts { IfOk result (λ _. 0 < vec_len self.new.parts) }
     {
         let mut calls = Vec::new(self.alloc);
         let mut part = Vec::new(self.alloc);
         for heap in heaps {
-            if part.len() >= problem_limits().cases as usize {
+            if part.len() >= self.defs.most().cases as usize {
                 self.push_part(&mut calls, owner, arity, part)?;
                 part = Vec::new(self.alloc);
             }
@@ -156,7 +160,8 @@ impl Building {
     }
 
     fn define_false(&mut self, arity: usize) -> Result<(), Refused>
-        ensures { OnOk result (HasPushed self.old.defs.list arity (impossible ∷ []) self.new.defs.list) }
+        ensures pushed { OnOk result (HasPushed self.old.defs.list arity (impossible ∷ []) self.new.defs.list) }
+        ensures parts { OnOk result (self.new.parts ≡ self.old.parts) }
     {
         let mut heaps = Vec::new(self.alloc);
         heaps.push(false_heap(self.alloc)?)?;
@@ -164,11 +169,13 @@ impl Building {
     }
 
     fn define_spread(&mut self, owner: &str, arity: usize, heaps: Vec<Heap>) -> Result<(), Refused>
-        requires { (limits Two).cases < length heaps.items }
-        ensures { OnOk result (HasDefined self.old.defs.list arity heaps.items self.new.defs.list) }
+        requires { 0 < length heaps.items }
+        ensures defined { OnOk result (HasDefined (vec_len self.new.parts ≡ 0) self.old.defs.list arity heaps.items
+            self.new.defs.list) }
+        ensures parts { OnOk result (0 < vec_len self.new.parts) }
     {
         let calls = self.spread(owner, arity, heaps)?;
-        if calls.len() > problem_limits().cases as usize {
+        if calls.len() > self.defs.most().cases as usize {
             return Err(Refused::Unsupported(Unsupported::Cases));
         }
         self.push_few(arity, &calls)
@@ -176,13 +183,15 @@ impl Building {
 
     /// Appends a definition with these cases; where there are none, it has a false one.
     pub fn define(&mut self, owner: &str, arity: usize, heaps: Vec<Heap>) -> Result<(), Refused>
-        ensures { OnOk result (HasDefined self.old.defs.list arity heaps.items self.new.defs.list) }
+        ensures defined { OnOk result (HasDefined (vec_len self.new.parts ≡ 0) self.old.defs.list arity heaps.items
+            self.new.defs.list) }
+        ensures parts { OnOk result (vec_len self.new.parts ≡ 0 → vec_len self.old.parts ≡ 0) }
     {
         let count = heaps.len();
         if count == 0 {
             return self.define_false(arity);
         }
-        if count <= problem_limits().cases as usize {
+        if count <= self.defs.most().cases as usize {
             return self.push_few(arity, &heaps);
         }
         self.define_spread(owner, arity, heaps)
@@ -190,7 +199,8 @@ impl Building {
 
     /// The definitions, with the parts behind them.
     pub fn finished(self) -> Result<Defs, Refused>
-        ensures { IfOk result (λ defs. HasMore self.defs.list defs.list) }
+        ensures more { IfOk result (λ defs. HasMore self.defs.list defs.list) }
+        ensures parts { IfOk result (λ defs. defs.list ≡ self.defs.list → vec_len self.parts ≡ 0) }
     {
         let Building {
             alloc,

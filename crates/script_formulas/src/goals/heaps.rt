@@ -1,13 +1,14 @@
 // Cases as symbolic heaps.
 ghost use Rattle.std.specs.Prelude.{◌≡◌, ◌++◌, length, replicate, IfOk, IfSome, OnOk};
 ghost use Rattle.std.specs.List.{AllZip};
+ghost use Rattle.cyc_basics.specs.Limits.{AreLimits};
 ghost use Rattle.heap_formula.specs.declared.terms.Term.TheVariants.{Nil as nil_term};
 ghost use Rattle.script_formulas.specs.Translating.{IsPlaceOf, IsTermOf, AreTermsOf, AreFilled, IsPureOf, IsSpatialOf};
 ghost use Rattle.script_formulas.specs.Translating.{IsHeapOf, AreHeapsOf};
 
 use crate::ScriptAtom;
 use crate::cases::{Case, Refused, Unsupported};
-use crate::limits::problem_limits;
+use cyc_basics::limits::Limits;
 use heap_formula::{Args, Heap, Pure, Spatial, Term};
 use std::alloc::Global;
 
@@ -208,42 +209,45 @@ fn spatials_of(
     Ok(made)
 }
 
-/// The case as a symbolic heap. Where nothing is said of the heap, it is empty.
+/// The case as a symbolic heap within the limits. Where nothing is said of the heap, it is empty.
 pub fn heap_of(
     alloc: Global,
+    most: Limits,
     numbers: &Numbers,
     variables: Variables<'_>,
     case: &Case,
 ) -> Result<Heap, Refused>
+    requires { AreLimits most }
     ensures { IfOk result (λ h. IsHeapOf numbers.now variables.entry case.now h) }
 {
     let pure = pures_of(alloc, variables, case.pure())?;
     let spatial = spatials_of(alloc, numbers, variables, case.atoms())?;
-    let limits = problem_limits();
-    if pure.len() > limits.pure as usize {
+    if pure.len() > most.pure as usize {
         return Err(Refused::Unsupported(Unsupported::PureAtoms));
     }
-    if spatial.len() > limits.spatial as usize {
+    if spatial.len() > most.spatial as usize {
         return Err(Refused::Unsupported(Unsupported::HeapAtoms));
     }
     Ok(Heap::from_lists(pure, spatial))
 }
 
-/// The cases of a definition as symbolic heaps.
+/// The cases of a definition as symbolic heaps within the limits.
 pub fn heaps_of(
     alloc: Global,
+    most: Limits,
     numbers: &Numbers,
     variables: Variables<'_>,
     cases: &[Case],
 ) -> Result<Vec<Heap>, Refused>
+    requires { AreLimits most }
     ensures { IfOk result (λ hs. AreHeapsOf numbers.now variables.entry cases.now hs.items) }
 {
     let mut heaps = Vec::new(alloc);
     for case in cases {
-        if u32::from(case.quantified()) > problem_limits().locals {
+        if u32::from(case.quantified()) > most.locals {
             return Err(Refused::Unsupported(Unsupported::Quantifiers));
         }
-        heaps.push(heap_of(alloc, numbers, variables, case)?)?;
+        heaps.push(heap_of(alloc, most, numbers, variables, case)?)?;
     }
     Ok(heaps)
 }

@@ -7,6 +7,7 @@ mod names;
 mod question;
 mod reached;
 mod refusal;
+mod same;
 mod succedents;
 mod translation;
 mod widths;

@@ -1,5 +1,6 @@
 // What a script asks, as a goal.
 use heap_formula::Judgement;
+use heap_syntax::Version;
 use pred_defs::Defs;
 
 /// How the goal asks what the script does: the script can be satisfied exactly where the goal does not hold; or exactly
@@ -10,13 +11,15 @@ pub enum Question {
     Satisfiability,
 }
 
-/// Definitions and a goal, and how it asks what the script does. In the goal `Univ(n)` is the script's constant n, and
+/// Definitions and a goal, the version of the formats of which they are, and how the goal asks what the script does. In
+/// the goal `Univ(n)` is the script's constant n, and
 /// the numbers behind the constants are quantified variables. The first predicates are those of the script with the
 /// numbers in
 /// `predicates`; others stand behind them.
 #[derive(Drop)]
 pub struct ScriptGoal {
     pub question: Question,
+    pub version: Version,
     pub defs: Defs,
     pub goal: Judgement,
     pub predicates: Vec<u16>,

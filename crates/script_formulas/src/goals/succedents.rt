@@ -1,5 +1,6 @@
 // The goal of a problem.
-ghost use Rattle.std.specs.Prelude.{◌≡◌, ◌≤◌, [], ◌∷◌, map, length, IfOk};
+ghost use Rattle.std.specs.Prelude.{◌≡◌, [], ◌∷◌, map, vec_len, IfOk};
+ghost use Rattle.cyc_basics.specs.Limits.{AreLimits};
 ghost use Rattle.heap_formula.specs.declared.terms.Term.TheVariants.{Univ as constant_term};
 ghost use Rattle.script_formulas.specs.declared.goals.heaps.Variables.TheVariants.{Known as known};
 ghost use Rattle.script_formulas.specs.Translating.{AreHeapsOf, AreDisjuncts, impossible};
@@ -9,8 +10,7 @@ use crate::ScriptAtom;
 use crate::cases::{Case, Refused, Unsupported};
 use crate::goals::building::{Building, false_heap};
 use crate::goals::heaps::{Numbers, Variables, heap_of, heaps_of};
-use crate::limits::problem_limits;
-use cyc_basics::limits::MOST_DISJUNCTS;
+use cyc_basics::limits::{Limits, MOST_DISJUNCTS};
 use cyc_basics::memory::OutOfMemory;
 use heap_formula::{Args, Disjuncts, Heap, Pure, Spatial, Term};
 use std::alloc::Global;
@@ -73,11 +73,12 @@ fn constant_terms(alloc: Global, constants: &[u16]) -> Result<Vec<Term>, Refused
     Ok(terms)
 }
 
-fn call(alloc: Global, number: u16, constants: &[u16]) -> Result<Heap, Refused>
+fn call(alloc: Global, most: Limits, number: u16, constants: &[u16]) -> Result<Heap, Refused>
+    requires { AreLimits most }
     ensures { IfOk result (λ h. h ≡ call_of number constants.now) }
 {
     let terms = constant_terms(alloc, constants)?;
-    if terms.len() > problem_limits().arguments as usize {
+    if terms.len() > most.arguments as usize {
         return Err(Refused::Unsupported(Unsupported::Disjunction));
     }
     let mut spatial = Vec::new(alloc);
@@ -91,20 +92,24 @@ fn call(alloc: Global, number: u16, constants: &[u16]) -> Result<Heap, Refused>
 /// A call of a predicate that has the cases, which is defined.
 fn called_antecedent(
     alloc: Global,
+    most: Limits,
     building: &mut Building,
     numbers: &Numbers,
     cases: &[Case],
 ) -> Result<Heap, Refused>
-    ensures { IfOk result (λ h. IsCallOf numbers.now cases.now h building.old.defs.list building.new.defs.list) }
+    requires { AreLimits most }
+    ensures called { IfOk result (λ h. IsCallOf numbers.now (vec_len building.new.parts ≡ 0) cases.now h
+        building.old.defs.list building.new.defs.list) }
+    ensures parts { IfOk result (λ _. vec_len building.new.parts ≡ 0 → vec_len building.old.parts ≡ 0) }
 {
     let number = building.count();
     if number >= 4096 {
         return Err(Refused::Unsupported(Unsupported::Predicates));
     }
     let listed = constants_of(alloc, cases)?;
-    let heap = call(alloc, number as u16, &listed)?;
+    let heap = call(alloc, most, number as u16, &listed)?;
     let variables = Variables::Listed(&listed);
-    let heaps = heaps_of(alloc, numbers, variables, cases)?;
+    let heaps = heaps_of(alloc, most, numbers, variables, cases)?;
     building.define("antecedent", listed.len(), heaps)?;
     Ok(heap)
 }
@@ -112,22 +117,31 @@ fn called_antecedent(
 /// The antecedent: the only case, or a predicate that has the cases.
 pub fn antecedent_of(
     alloc: Global,
+    most: Limits,
     building: &mut Building,
     numbers: &Numbers,
     constants: u16,
     cases: &[Case],
 ) -> Result<Heap, Refused>
-    ensures { IfOk result (λ h. IsAntecedent numbers.now constants cases.now h building.old.defs.list
-        building.new.defs.list) }
+    requires { AreLimits most }
+    ensures said { IfOk result (λ h. IsAntecedent numbers.now (vec_len building.new.parts ≡ 0) constants cases.now h
+        building.old.defs.list building.new.defs.list) }
+    ensures parts { IfOk result (λ _. vec_len building.new.parts ≡ 0 → vec_len building.old.parts ≡ 0) }
 {
     let count = cases.len();
     if count == 0 {
         return false_heap(alloc);
     }
     if count == 1 {
-        return heap_of(alloc, numbers, Variables::Raised(constants), &cases[0]);
+        return heap_of(
+            alloc,
+            most,
+            numbers,
+            Variables::Raised(constants),
+            &cases[0],
+        );
     }
-    called_antecedent(alloc, building, numbers, cases)
+    called_antecedent(alloc, most, building, numbers, cases)
 }
 
 fn no_disjunct(alloc: Global) -> Result<Disjuncts, Refused>
@@ -140,15 +154,18 @@ fn no_disjunct(alloc: Global) -> Result<Disjuncts, Refused>
 
 fn disjuncts_of(
     alloc: Global,
+    most: Limits,
     numbers: &Numbers,
     constants: u16,
     cases: &[Case],
 ) -> Result<Vec<Heap>, Refused>
+    requires { AreLimits most }
     ensures { IfOk result (λ hs. AreHeapsOf numbers.now (known constants) cases.now hs.items) }
 {
     let mut heaps = Vec::new(alloc);
     for case in cases {
-        heaps.push(heap_of(alloc, numbers, Variables::Known(constants), case)?)?;
+        let variables = Variables::Known(constants);
+        heaps.push(heap_of(alloc, most, numbers, variables, case)?)?;
     }
     Ok(heaps)
 }
@@ -156,17 +173,19 @@ fn disjuncts_of(
 /// The succedent: a disjunct for each case, or a false one.
 pub fn succedent_of(
     alloc: Global,
+    most: Limits,
     numbers: &Numbers,
     constants: u16,
     cases: &[Case],
 ) -> Result<Disjuncts, Refused>
+    requires { AreLimits most }
     ensures { IfOk result (λ hs. AreDisjuncts numbers.now constants cases.now hs) }
 {
     let count = cases.len();
     if count == 0 {
         return no_disjunct(alloc);
     }
-    let heaps = disjuncts_of(alloc, numbers, constants, cases)?;
+    let heaps = disjuncts_of(alloc, most, numbers, constants, cases)?;
     if heaps.len() == 0 || heaps.len() > MOST_DISJUNCTS {
         return Err(Refused::Unsupported(Unsupported::Cases));
     }

@@ -1,7 +1,10 @@
 // A script as definitions and a goal.
-ghost use Rattle.std.specs.Prelude.{◌≡◌, ◌≤◌, [], map, length, IfOk, OnOk};
+ghost use Rattle.std.specs.Prelude.{◌≡◌, [], map, length, vec_len, IfOk, OnOk};
 ghost use Rattle.std.specs.List.{list_any};
+ghost use Rattle.cyc_basics.specs.Limits.{AreLimits};
 ghost use Rattle.script_formulas.specs.Formulas.{formula_of};
+ghost use Rattle.script_formulas.specs.Scope.{AreFine};
+ghost use Rattle.script_formulas.specs.Sides.{AreDenied, AreSides};
 ghost use Rattle.script_formulas.specs.Translating.{AreToldApart};
 ghost use Rattle.script_formulas.specs.Defining.{HasBody, AreDefinedIn, IsJudgement, IsAsked, IsGoalOf};
 
@@ -15,7 +18,9 @@ use crate::goals::refusal::{Place, ScriptRefusal, at};
 use crate::goals::succedents::{antecedent_of, succedent_of};
 use crate::goals::widths::widths_of;
 use crate::{Predicate, Script};
+use cyc_basics::limits::Limits;
 use heap_formula::Judgement;
+use heap_syntax::Version;
 use std::alloc::Global;
 
 fn has_open(cases: &[Case]) -> bool
@@ -66,13 +71,17 @@ fn numbers_of(alloc: Global, script: &Script) -> Result<Numbers, Refused>
 
 fn define_predicate(
     alloc: Global,
+    most: Limits,
     building: &mut Building,
     numbers: &Numbers,
     place: Place,
     predicate: &Predicate,
 ) -> Result<(), ScriptRefusal>
-    ensures { OnOk result (HasBody numbers.now (length predicate.now.parameters.items)
-        (formula_of predicate.now.body) building.old.defs.list building.new.defs.list) }
+    requires { AreLimits most }
+    ensures body { OnOk result (HasBody numbers.now (vec_len building.new.parts ≡ 0)
+        (length predicate.now.parameters.items) (formula_of predicate.now.body) building.old.defs.list
+        building.new.defs.list) }
+    ensures parts { OnOk result (vec_len building.new.parts ≡ 0 → vec_len building.old.parts ≡ 0) }
 {
     let arity = predicate.parameters.len();
     if arity > 8 {
@@ -83,7 +92,7 @@ fn define_predicate(
         return Err(ScriptRefusal::Unsupported(place, Unsupported::OpenHeap));
     }
     let variables = Variables::Known(arity as u16);
-    let heaps = at(place, heaps_of(alloc, numbers, variables, &cases))?;
+    let heaps = at(place, heaps_of(alloc, most, numbers, variables, &cases))?;
     at(
         place,
         building.define(predicate.name.as_str(), arity, heaps),
@@ -108,20 +117,22 @@ fn name_predicates(
 
 fn define_predicates(
     alloc: Global,
+    most: Limits,
     building: &mut Building,
     script: &Script,
     numbers: &Numbers,
 ) -> Result<(), ScriptRefusal>
-    requires { building.old.defs.list ≡ [] }
-    ensures { OnOk result (AreDefinedIn script.now.predicates.items numbers.now numbers.now.predicates.items
-        building.new.defs.list) }
+    requires none { building.old.defs.list ≡ [] }
+    requires limits { AreLimits most }
+    ensures { OnOk result (AreDefinedIn script.now.predicates.items numbers.now (vec_len building.new.parts ≡ 0)
+        numbers.now.predicates.items building.new.defs.list) }
 {
     for number in &numbers.predicates {
         let place = Place::Predicate(*number as usize);
         let Some(predicate) = script.predicates.get(*number as usize) else {
             return Err(ScriptRefusal::Unsupported(place, Unsupported::Unbound));
         };
-        define_predicate(alloc, building, numbers, place, predicate)?;
+        define_predicate(alloc, most, building, numbers, place, predicate)?;
     }
     Ok(())
 }
@@ -129,16 +140,18 @@ fn define_predicates(
 /// The definitions of the predicates that are used; there may be one more, which the antecedent calls.
 fn definitions_of(
     alloc: Global,
+    limits: Limits,
     script: &Script,
     numbers: &Numbers,
     has_disjunction: bool,
 ) -> Result<Building, ScriptRefusal>
+    requires { AreLimits limits }
     ensures { IfOk result (λ building. AreDefinedIn script.now.predicates.items numbers.now
-        numbers.now.predicates.items building.defs.list) }
+        (vec_len building.parts ≡ 0) numbers.now.predicates.items building.defs.list) }
 {
     let extra = if has_disjunction { 1 } else { 0 };
     let most = numbers.predicates.len().saturating_add(extra);
-    let mut building = Building::new(alloc, most);
+    let mut building = Building::new(alloc, limits, most);
     at(
         Place::Whole,
         name_predicates(&mut building, script, numbers),
@@ -146,26 +159,29 @@ fn definitions_of(
     if has_disjunction {
         at(Place::Whole, building.name("antecedent"))?;
     }
-    define_predicates(alloc, &mut building, script, numbers)?;
+    define_predicates(alloc, limits, &mut building, script, numbers)?;
     Ok(building)
 }
 
 fn judgement_of(
     alloc: Global,
+    most: Limits,
     building: &mut Building,
     numbers: &Numbers,
     constants: usize,
     sides: &Sides,
 ) -> Result<Judgement, Refused>
-    ensures { IfOk result (λ goal. IsJudgement numbers.now constants sides.now.asserted.items sides.now.denied.items
-        building.old.defs.list building.new.defs.list goal) }
+    requires { AreLimits most }
+    ensures judged { IfOk result (λ goal. IsJudgement numbers.now (vec_len building.new.parts ≡ 0) constants
+        sides.now.asserted.items sides.now.denied.items building.old.defs.list building.new.defs.list goal) }
+    ensures parts { IfOk result (λ _. vec_len building.new.parts ≡ 0 → vec_len building.old.parts ≡ 0) }
 {
     if constants >= 65535 {
         return Err(Refused::Unsupported(Unsupported::Variables));
     }
     let constants = constants as u16;
-    let antecedent = antecedent_of(alloc, building, numbers, constants, &sides.asserted)?;
-    let succedent = succedent_of(alloc, numbers, constants, &sides.denied)?;
+    let antecedent = antecedent_of(alloc, most, building, numbers, constants, &sides.asserted)?;
+    let succedent = succedent_of(alloc, most, numbers, constants, &sides.denied)?;
     Ok(Judgement::Entail(antecedent, succedent))
 }
 
@@ -182,16 +198,26 @@ fn question_of(asserted: &[Case], denied: &[Case]) -> Result<Question, ScriptRef
     Ok(Question::Entailment)
 }
 
-/// The goal that asks what the script does, or the first cause found why there is none.
-pub fn goal_of_script(alloc: Global, script: &Script) -> Result<ScriptGoal, ScriptRefusal>
+/// The goal of a script with these sides, of this version of the formats.
+fn goal_of_sides(
+    alloc: Global,
+    version: Version,
+    script: &Script,
+    sides: &Sides,
+) -> Result<ScriptGoal, ScriptRefusal>
+    requires sides { AreSides (map formula_of script.now.asserted.items) (map formula_of script.now.denied.items)
+        sides.now.asserted.items sides.now.denied.items }
+    requires first { AreFine 0 sides.now.asserted.items }
+    requires second { AreDenied sides.now.denied.items }
     ensures { IfOk result (λ g. IsGoalOf script.now g.question g.defs.list g.goal g.predicates.items) }
 {
-    let sides = sides_of(alloc, script)?;
+    let most = version.limits();
     let question = question_of(&sides.asserted, &sides.denied)?;
     let numbers = at(Place::Whole, numbers_of(alloc, script))?;
-    let mut building = definitions_of(alloc, script, &numbers, sides.asserted.len() > 1)?;
+    let has_disjunction = sides.asserted.len() > 1;
+    let mut building = definitions_of(alloc, most, script, &numbers, has_disjunction)?;
     let constants = script.constants.len();
-    let goal = judgement_of(alloc, &mut building, &numbers, constants, &sides);
+    let goal = judgement_of(alloc, most, &mut building, &numbers, constants, sides);
     let goal = at(Place::Whole, goal)?;
     let defs = at(Place::Whole, building.finished())?;
     let Numbers {
@@ -201,8 +227,36 @@ pub fn goal_of_script(alloc: Global, script: &Script) -> Result<ScriptGoal, Scri
     } = numbers;
     Ok(ScriptGoal {
         question,
+        version,
         defs,
         goal,
         predicates,
     })
+}
+
+/// Whether a problem of a later version may have room for what this one has not.
+fn is_of_room(refusal: ScriptRefusal) -> bool {
+    match refusal {
+        ScriptRefusal::Unsupported(_, cause) => matches!(
+            cause,
+            Unsupported::Cases
+                | Unsupported::Quantifiers
+                | Unsupported::PureAtoms
+                | Unsupported::HeapAtoms
+        ),
+        ScriptRefusal::OutOfMemory => false,
+    }
+}
+
+/// The goal that asks what the script does, of version 2 of the formats or, where that has no room for it, of version
+/// 3; or the first cause found why there is none.
+pub fn goal_of_script(alloc: Global, script: &Script) -> Result<ScriptGoal, ScriptRefusal>
+    ensures { IfOk result (λ g. IsGoalOf script.now g.question g.defs.list g.goal g.predicates.items) }
+{
+    let sides = sides_of(alloc, script)?;
+    match goal_of_sides(alloc, Version::Two, script, &sides) {
+        Ok(goal) => Ok(goal),
+        Err(refusal) if is_of_room(refusal) => goal_of_sides(alloc, Version::Three, script, &sides),
+        Err(refusal) => Err(refusal),
+    }
 }

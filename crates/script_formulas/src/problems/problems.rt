@@ -21,15 +21,20 @@ pub struct ScriptProblem {
     pub predicates: Vec<u16>,
 }
 
-/// The problem with these definitions and goal. What passes a limit then is the number of variables.
-fn problem_of(alloc: Global, defs: Defs, goal: Judgement) -> Result<Problem, ScriptRefusal>
+/// The problem of a version with these definitions and goal. What passes a limit then is the number of variables.
+fn problem_of(
+    alloc: Global,
+    version: Version,
+    defs: Defs,
+    goal: Judgement,
+) -> Result<Problem, ScriptRefusal>
     ensures definitions { IfOk result (λ p. p.defs.list ≡ defs.list) }
     ensures goal { IfOk result (λ p. p.goal ≡ goal) }
 {
     let Ok(program) = Program::new(alloc, &[]) else {
         return Err(ScriptRefusal::OutOfMemory);
     };
-    match problem_of_values(Version::Two, defs, program, goal) {
+    match problem_of_values(version, defs, program, goal) {
         Ok(problem) => Ok(problem),
         Err(_) => Err(ScriptRefusal::Unsupported(Place::Whole, Unsupported::Variables)),
     }
@@ -42,11 +47,12 @@ pub fn problem_of_script(alloc: Global, script: &Script) -> Result<ScriptProblem
 {
     let ScriptGoal {
         question,
+        version,
         defs,
         goal,
         predicates,
     } = goal_of_script(alloc, script)?;
-    let problem = problem_of(alloc, defs, goal)?;
+    let problem = problem_of(alloc, version, defs, goal)?;
     Ok(ScriptProblem {
         question,
         problem,

@@ -2,7 +2,7 @@ use Rattle.std.proofs.Common.{◌≡◌, ◌+◌, ◌≤◌, ◌<◌, [], ◌∷
 use Rattle.std.proofs.lemmas.Grind.{common_steps}
 use Rattle.std.proofs.lemmas.List.{take_more, take_all, map-append}
 use Rattle.script_formulas.specs.Formulas.{formula_of}
-use Rattle.script_formulas.specs.Sides.{AreSides}
+use Rattle.script_formulas.specs.Sides.{AreDenied, AreSides}
 use Rattle.script_formulas.proofs.goals.antecedents.sides_of.Goals as goal
 
 pub loop-number-init : goal.loop-number-init
@@ -10,6 +10,7 @@ loop-number-init c = (
   c.in_ok-asserted_cases.ensures.fine,
   subst (λ l. AreSides (map formula_of c.args.script.now.asserted.items) [] c.in_ok-asserted_cases.field-0.items l)
       (sym c.new.ensures.items) c.in_ok-asserted_cases.ensures.meaning,
+  subst AreDenied (sym c.new.ensures.items) (tt, tt),
 )
 
 pub loop-number-preserved : goal.loop-number-preserved
@@ -28,10 +29,11 @@ loop-number-preserved c =
       c.in_ok-deny.ensures.fine,
       subst (λ l. AreSides asserted l new.asserted.items new.denied.items) (sym mapped) (c.in_ok-deny.ensures.denied
           asserted (map formula_of (take i gs)) c.loop-number.invariant.1),
+      c.in_ok-deny.ensures.others,
     )
 
-pub returns : goal.returns
-returns c =
+pub returns-clause-sides : goal.returns-clause-sides
+returns-clause-sides c =
     let gs = c.args.script.now.denied.items in
     let sides = c.loop-number.sides in
     let past : length gs ≤ c.loop-number.number = omega (arith, ap length c.deref-formula-items.ensures.value) in

@@ -20,6 +20,7 @@ loop-case-preserved c =
       subst (λ l. AreWithout l first second new.asserted.items new.denied.items) (sym taken) (without_more (take i cs)
           case first second old.asserted.items old.denied.items new.asserted.items new.denied.items
           c.loop-case.invariant.1 c.in_ok-deny_case.ensures.without),
+      c.in_ok-deny_case.ensures.others,
     )
 
 pub returns-clause-denied : goal.returns-clause-denied

@@ -1,9 +1,11 @@
-use Rattle.std.proofs.Common.{◌≡◌, [], ◌∷◌, ◌++◌, Ok, true, sym, ◌∙◌, subst, arith}
+use Rattle.std.proofs.Common.{◌≡◌, [], ◌∷◌, ◌++◌, Ok, true, false, sym, ◌∙◌, subst, arith}
 use Rattle.std.specs.Prelude.{IfOk}
 use Rattle.std.proofs.lemmas.Grind.{common_steps}
 use Rattle.script_formulas.specs.declared.cases.joining.Way.TheVariants.{Conjunction}
 use Rattle.script_formulas.specs.Joining.{join_all}
-use Rattle.script_formulas.specs.Sides.{AreWithout, negations}
+use Rattle.heap_formula.proofs.AllMembers.{each_last}
+use Rattle.script_formulas.specs.Scope.{IsFine}
+use Rattle.script_formulas.specs.Sides.{AreDenied, AreWithout, negations}
 use Rattle.script_formulas.proofs.SideSteps.{without_open, without_closed, joined_fine, negations_fine}
 use Rattle.script_formulas.proofs.goals.antecedents.Sides.deny_case.Goals as goal
 
@@ -39,3 +41,15 @@ returns-in_ok-push-clause-without c =
     let same : c.in_ok-at.field-0 ≡ case = subst (λ r. IfOk r (λ x. x ≡ case)) c.in_ok-at.ensures c.copy.ensures in
     let pushed : second ++ case ∷ [] ≡ c.push.new.self.items = grind (arith, common_steps) in
     subst (λ l. AreWithout (case ∷ []) first second first l) pushed (without_closed case first second)
+
+pub returns-in_ok-push-clause-others : goal.returns-in_ok-push-clause-others
+returns-in_ok-push-clause-others c =
+    let case = c.args.case.now in
+    let second = c.args.self.now.denied.items in
+    let same : c.in_ok-at.field-0 ≡ case = subst (λ r. IfOk r (λ x. x ≡ case)) c.in_ok-at.ensures c.copy.ensures in
+    let pushed : second ++ case ∷ [] ≡ c.push.new.self.items = grind (arith, common_steps) in
+    let closed : case.any_heap ≡ false = grind (arith, common_steps) in
+    subst AreDenied pushed (
+      each_last (IsFine 0) second case c.requires.others.0 c.requires.case,
+      each_last (λ x. x.any_heap ≡ false) second case c.requires.others.1 closed,
+    )
