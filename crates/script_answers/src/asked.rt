@@ -1,19 +1,20 @@
 // What a script asks, as the text of a problem.
-ghost use Rattle.std.specs.Prelude.{◌≡◌, ◌<◌, ◌-◌, ◌^◌, length, IfOk, true};
-ghost use Rattle.script_answers.specs.Refusals.{IsRefused};
+ghost use Rattle.std.specs.Prelude.{◌≡◌, ◌<◌, ◌-◌, ◌^◌, length, IfOk};
+ghost use Rattle.script_answers.specs.Asking.{IsAskedOf};
+ghost use Rattle.script_reader.specs.Commands.{IsAsked};
 
 use crate::lines::{answer_to_script_fault, answer_to_unsayable};
 use crate::texts::{ProblemNames, problem_text};
 use cyc_basics::memory::OutOfMemory;
 use cyc_runs::Answer;
-use script_formulas::goals::{Place, Question, ScriptGoal, ScriptRefusal, goal_of_script};
+use script_formulas::goals::{Place, ScriptGoal, ScriptRefusal, goal_of_script};
 use script_reader::{NamedScript, read_script};
 use std::alloc::Global;
 
-/// The question of a script, and the text of the problem that asks it.
+/// The goal that asks what a script does, and the text of a problem with it.
 #[derive(Drop)]
 pub struct AskedScript {
-    pub question: Question,
+    pub asks: ScriptGoal,
     pub text: Vec<u8>,
 }
 
@@ -60,33 +61,38 @@ fn offset_of(script: &NamedScript, place: Place, end: usize) -> usize {
 fn asked_script(
     alloc: Global,
     script: NamedScript,
-    asks: &ScriptGoal,
-) -> Result<AskedScript, OutOfMemory> {
+    asks: ScriptGoal,
+) -> Result<AskedScript, OutOfMemory>
+    ensures { IfOk result (λ asked. asked.asks ≡ asks) }
+{
     let names = names_of(alloc, script, &asks.predicates)?;
     let text = problem_text(alloc, asks.version, &asks.defs, &asks.goal, &names)?;
-    Ok(AskedScript {
-        question: asks.question,
-        text,
-    })
+    Ok(AskedScript { asks, text })
 }
 
-/// What the script asks that the bytes spell.
-pub fn asked_of_script(alloc: Global, input: &[u8]) -> Result<Asked, OutOfMemory>
-    requires { length input.now < 2 ^ 32 - 1 }
-    ensures { IfOk result IsRefused }
+/// What a script asks that was read.
+fn asked_of_read(alloc: Global, input: &[u8], script: NamedScript) -> Result<Asked, OutOfMemory>
+    requires short { length input.now < 2 ^ 32 - 1 }
+    requires asked { IsAsked input.now }
+    ensures { IfOk result (IsAskedOf input.now) }
 {
-    let script = match read_script(alloc, input) {
-        Ok(script) => script,
-        Err(fault) => {
-            return Ok(Asked::Refused(answer_to_script_fault(alloc, input, fault)?));
-        }
-    };
     match goal_of_script(alloc, &script.script) {
-        Ok(asks) => Ok(Asked::Script(asked_script(alloc, script, &asks)?)),
+        Ok(asks) => Ok(Asked::Script(asked_script(alloc, script, asks)?)),
         Err(ScriptRefusal::Unsupported(place, what)) => {
             let at = offset_of(&script, place, input.len());
             Ok(Asked::Refused(answer_to_unsayable(alloc, input, what, at)?))
         }
         Err(ScriptRefusal::OutOfMemory) => Err(OutOfMemory),
+    }
+}
+
+/// What the script asks that the bytes spell.
+pub fn asked_of_script(alloc: Global, input: &[u8]) -> Result<Asked, OutOfMemory>
+    requires { length input.now < 2 ^ 32 - 1 }
+    ensures { IfOk result (IsAskedOf input.now) }
+{
+    match read_script(alloc, input) {
+        Ok(script) => asked_of_read(alloc, input, script),
+        Err(fault) => Ok(Asked::Refused(answer_to_script_fault(alloc, input, fault)?)),
     }
 }
