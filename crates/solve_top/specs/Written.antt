@@ -105,7 +105,8 @@ abbrev pub IsUndivided : (input : List ℕ) (question : Question) (problem : Pro
 IsUndivided input question problem asks = problem.defs.list ≡ asks.asks.called
 
 -- after `unsat` the text of a problem stands that asks what the script does, and whose goal holds, and what shows it;
--- then no heap in which sorts are apart satisfies the script, and none at all where its cells have locations of one sort
+-- then no heap in which sorts are apart satisfies the script, and none at all where its cells have locations of one
+-- sort
 pub record IsUnsatText (input text : List ℕ) : Type 0 where
   pub question : Question
   pub problem : Problem
@@ -117,7 +118,8 @@ pub record IsUnsatText (input text : List ℕ) : Type 0 where
   pub apart : IsUndivided input question problem asks → ¬ IsSatisfiableApart asks.script
   pub unsatisfiable : IsUndivided input question problem asks → HasOneSort asks.script → ¬ IsSatisfiable asks.script
 
--- after `sat` the text of a problem stands that asks what the script does, and whose antecedent something satisfies, and
+-- after `sat` the text of a problem stands that asks what the script does, and whose antecedent something satisfies,
+-- and
 -- what shows it; then the script can be satisfied
 pub record IsSatText (input text : List ℕ) : Type 0 where
   pub question : Question
