@@ -24,8 +24,8 @@ use Rattle.counter_model.specs.declared.refuting.Refuted.{Refuted}
 use Rattle.counter_model.specs.declared.refuting.Refuted.TheVariants.{Found, NotFound, TooManyUniversals}
 
 -- the antecedent of a goal within the limits has no existentials
-pub goal_universal : (most : Limits) (count : ℕ) (ds : List Definition) (g : Judgement) (a : SymbolicHeap) (bs : List SymbolicHeap)
-    → g ≡ Entail a bs → IsJudgementWithin most ds count g → IsUniversalHeap a
+pub goal_universal : (most : Limits) (count : ℕ) (ds : List Definition) (g : Judgement) (a : SymbolicHeap)
+    (bs : List SymbolicHeap) → g ≡ Entail a bs → IsJudgementWithin most ds count g → IsUniversalHeap a
 goal_universal most count ds g a bs e w = subst (λ (j : Judgement). IsUniversalHeap (antecedent j)) e w.universal
 
 -- a bound that is not above 8

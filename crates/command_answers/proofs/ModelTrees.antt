@@ -39,7 +39,8 @@ one_few P Q A f [] a o = absurd o
 one_few P Q A f (x ∷ xs) a (inl q) = f x a.0 q
 one_few P Q A f (x ∷ xs) a (inr o) = one_few P Q A f xs a.1 o
 
-heap_few : (most : Limits) (ds : List Definition) (k : ℕ) (a : SymbolicHeap) → IsHeapWithin most ds a → IsWidthIn k a → k ≤ 8
+heap_few : (most : Limits) (ds : List Definition) (k : ℕ) (a : SymbolicHeap) → IsHeapWithin most ds a → IsWidthIn k a
+    → k ≤ 8
 heap_few most ds k a w o = one_few HasFields (sizes.HasFields k) (k ≤ 8) (atom_few k) a.spatial w.fields o
 
 width_few : (most : Limits) (count : ℕ) (ds : List Definition) (a : SymbolicHeap) (bs : List SymbolicHeap) (k : ℕ)

@@ -99,7 +99,8 @@ module _ (ds : List Definition) (a : SymbolicHeap) (bs : List SymbolicHeap) (n l
     (tight : (t : Stack) (g : Cells) → (Breaks 0 t → ⊥) → IsOfSize n long IsCount t g → IsCounter ds a bs t g → P t)
   where
     -- what holds of each tight stack with a counter-model, and of later ones, holds of each stack with a counter-model
-    reached : (m : ℕ) (t : Stack) (g : Cells) → spell n t < m → IsOfSize n long IsCount t g → IsCounter ds a bs t g → P t
+    reached : (m : ℕ) (t : Stack) (g : Cells) → spell n t < m → IsOfSize n long IsCount t g → IsCounter ds a bs t g
+        → P t
     reached zero t g l z c = absurd (omega arith)
     reached (suc m) t g l z c = elim (breaks_or 0 t) [
       | inl b ↦

@@ -25,7 +25,8 @@ at_has (x ∷ xs) zero q h = or_left (nat_eq x q) (has xs q)
 at_has (x ∷ xs) (suc k) q h = or_right (nat_eq x q) (has xs q) (at_has xs k q h)
 
 -- positions that are below MOST_POSITIONS at each place are so
-pub below_from : (positions : List ℕ) → ((k q : ℕ) → k < length positions → slice_get positions k ≡ Some q → q < MOST_POSITIONS)
+pub below_from : (positions : List ℕ)
+    → ((k q : ℕ) → k < length positions → slice_get positions k ≡ Some q → q < MOST_POSITIONS)
     → (q : ℕ) → has positions q ≡ true → q < MOST_POSITIONS
 below_from positions h q m = let k = has_at positions q m in h k.0 q (slice_get_within positions k.0 q k.1) k.1
 

@@ -21,7 +21,8 @@ use Rattle.cyc_top.specs.Answers.{file_text}
 use Rattle.cyc_top.specs.Rings.{IsRing}
 
 -- the ring's file itself
-pub whole_ring : (k : ℕ) (f : ProofFile) → f.defs ≡ record { most = limits One; list = ring_definitions k } → f.program ≡ []
+pub whole_ring : (k : ℕ) (f : ProofFile) → f.defs ≡ record { most = limits One; list = ring_definitions k }
+    → f.program ≡ []
     → f.nodes ≡ file_nodes (ring_nodes k) → IsRing k f
 whole_ring k f defs program nodes =
     record {

@@ -167,7 +167,8 @@ module _ (k : KnownFront) (s : Stretch) (h : IsStretch s) (f : Found) (ws : List
     )
 
     -- a token among those that are left is one of all
-    dead-later : (left : ℕ) → left ≤ length us → syntax_fault f.tokens us left ≡ syntax_fault s.before (tokens_of s) left
+    dead-later : (left : ℕ) → left ≤ length us
+        → syntax_fault f.tokens us left ≡ syntax_fault s.before (tokens_of s) left
     dead-later left within =
         ap (λ (n : ℕ). syntax_fault n us left) (sym counted)
         ∙ sym (syntax-later s.before left (take (f.tokens - s.before) (tokens_of s)) us within)

@@ -44,7 +44,8 @@ module _ (pairs : List ValuePair) where
       )
 
   module _ (c d : State) where
-    pub alike_made : c.line ≡ d.line → IsPaired pairs 0 0 → AreOneToOne pairs → EachPair (IsPaired pairs) c.stack d.stack
+    pub alike_made : c.line ≡ d.line → IsPaired pairs 0 0 → AreOneToOne pairs
+        → EachPair (IsPaired pairs) c.stack d.stack
         → Each (HasLikeCell pairs c.heap d.heap) pairs → Alike (IsPaired pairs) c d
     alike_made line nil one stack cells = record {
       line = line;
@@ -73,7 +74,8 @@ module _ (pairs : List ValuePair) where
 
     -- ---- the answers as the code has them
 
-    pub not_alike_once : (b : Bool) → b ≡ false → IsTrue b ↔ AreOneToOne pairs → IsTrue false ↔ Alike (IsPaired pairs) c d
+    pub not_alike_once : (b : Bool) → b ≡ false → IsTrue b ↔ AreOneToOne pairs
+        → IsTrue false ↔ Alike (IsPaired pairs) c d
     not_alike_once b f i = no (λ l. excluded b f i (alike_once l))
 
     pub not_alike_stacks : (b : Bool) → b ≡ false → IsTrue b ↔ EachPair (IsPaired pairs) c.stack d.stack → IsTrue false

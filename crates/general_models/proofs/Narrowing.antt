@@ -208,7 +208,8 @@ module _ (h : Cells) (range numbers : List ℕ) (base fresh : ℕ) (o : Occur h 
             (λ i l q. out (subst (λ v. IsMember v range) q (r.others i l))) (omega arith) in
             by_swap u.0 u.1 (λ m. u.2 (member_left (base + u.0) used e m)) (λ m. u.2 (member_right (base + u.0) used e m))
 
-      narrow : (k : ℕ) → k ≤ heap_exists b → (e : Stack) → length e ≡ heap_exists b → Holds (λ _. P) s e b g → AreNarrow k
+      narrow : (k : ℕ) → k ≤ heap_exists b → (e : Stack) → length e ≡ heap_exists b → Holds (λ _. P) s e b g
+          → AreNarrow k
       narrow zero l e long holds = (e, long, (λ j lj. absurd (omega arith)), holds)
       narrow (suc k) l e long holds =
           let q = narrow k (omega arith) e long holds in

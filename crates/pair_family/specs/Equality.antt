@@ -78,7 +78,8 @@ numbers_digest ns = digest_from 0 ns
 
 -- what a pair adds to a digest of pairs: the bit that it has in a mask, if it has one
 abbrev pub pair_weight : ℕ × ℕ → ℕ
-pair_weight q = if nat_lt q.0 q.1 && nat_lt q.1 11 then 2 ^ (q.1 * (q.1 - 1) / 2 + q.0) else with_number (with_number 0 q.0) q.1
+pair_weight q =
+    if nat_lt q.0 q.1 && nat_lt q.1 11 then 2 ^ (q.1 * (q.1 - 1) / 2 + q.0) else with_number (with_number 0 q.0) q.1
 
 abbrev pub pairs_digest_from : ℕ → List (ℕ × ℕ) → ℕ
 pairs_digest_from h [] = h

@@ -82,7 +82,8 @@ module _ (n : ℕ) where
   case_lines j k ts m [] h = tt
   case_lines j k ts m (c ∷ cs) h = (kept j _ h, case_lines j k ts m cs h)
 
-  unfold_lines : (most : Limits) (ds : List Definition) (p : ℕ) (j : Judgement) (k : ℕ) (x : Spatial) → IsWithinLines n j
+  unfold_lines : (most : Limits) (ds : List Definition) (p : ℕ) (j : Judgement) (k : ℕ) (x : Spatial)
+      → IsWithinLines n j
       → OnPremises P (calls x (λ q ts. limited most (map (unfold_premise j k ts (fresh_number p j)) (cases_of ds q))))
   unfold_lines most ds p j k (Cell t ts) h = tt
   unfold_lines most ds p j k (Pred q ts) h =
@@ -117,7 +118,8 @@ module _ (n : ℕ) where
 abbrev Q : ℕ → Judgement → Premise → Type 0
 Q n j = IsPremiseWithin n
 
-rule_lines : (most : Limits) (ds : List Definition) (lines : List Command) (j : Judgement) (rule : Rule) → IsProgram lines
+rule_lines : (most : Limits) (ds : List Definition) (lines : List Command) (j : Judgement) (rule : Rule)
+    → IsProgram lines
     → IsWithinLines (length lines) j → OnPremises (IsPremiseWithin (length lines)) (rule_answer most ds lines j rule)
 rule_lines most ds lines j Absurd p h = needs_on (P (length lines)) (is_absurd (antecedent j)) NotAbsurd (Ok [])
     (λ _. tt)

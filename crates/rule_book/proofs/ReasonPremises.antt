@@ -20,7 +20,8 @@ use Rattle.rule_book.specs.Limits.{IsJudgementWithin, IsPremiseWithin, IsDefinit
 use Rattle.rule_book.proofs.Judgements.{IsNearly}
 use Rattle.rule_book.proofs.Within.{rule_nearly}
 
-universal_terms : (most : Limits) (ds : List Definition) (rule : Rule) → IsRuleWithin most ds rule → HasUniversalTerms rule
+universal_terms : (most : Limits) (ds : List Definition) (rule : Rule) → IsRuleWithin most ds rule
+    → HasUniversalTerms rule
 universal_terms most ds (Split t u) r = (r.0.0, r.1.0)
 universal_terms most ds rule r = tt
 

@@ -45,7 +45,8 @@ use Rattle.rule_table.proofs.FewPremises.{few_cases}
 use Rattle.std.proofs.lemmas.Bool.{and_parts}
 
 -- a place in a short list
-short_at : {X : Type 0} (xs : List X) (k : ℕ) (x : X) → slice_get xs k ≡ Some x → length xs ≤ MOST_PURE → IsShortNumber k
+short_at : {X : Type 0} (xs : List X) (k : ℕ) (x : X) → slice_get xs k ≡ Some x → length xs ≤ MOST_PURE
+    → IsShortNumber k
 short_at xs k x at few = let w = slice_get_within xs k x at in omega arith
 
 places_short : (k n : ℕ) (places : List ℕ) → ascend_from k n places ≡ true → n ≤ MOST_PURE → Each IsShortNumber places
@@ -64,8 +65,8 @@ Gives X ps answer = answer ≡ Ok ps → X
 no_answer : (X : Type 0) (ps : List Premise) (f : RuleFault) → Gives X ps (Err f)
 no_answer X ps f e = cc
 
-right_short : (most : Limits) (bounded : AreLimits most) (ds : List Definition) (ps : List Premise) (a b : SymbolicHeap) (k c : ℕ) (x : Spatial)
-    → Each (IsDefinitionWithin most ds) ds → Gives (IsShortNumber c) ps
+right_short : (most : Limits) (bounded : AreLimits most) (ds : List Definition) (ps : List Premise) (a b : SymbolicHeap)
+    (k c : ℕ) (x : Spatial) → Each (IsDefinitionWithin most ds) ds → Gives (IsShortNumber c) ps
     (calls x (λ q ts. finds (slice_get (cases_of ds q) c) NoSuchCase
     (λ case. limited most (one (with_right a (unfolded b k (in_heap (right_term ts (heap_exists b)) case) ∷ []))))))
 right_short most bounded ds ps a b k c (Cell t ts) d = no_answer (IsShortNumber c) ps NoSuchAtom
@@ -114,7 +115,8 @@ module _ (most : Limits) (bounded : AreLimits most) (ds : List Definition) (line
         let X = IsShortNumber k in
         single_gives (Gives X ps) (no_answer X ps) j _ (λ a b is.
         finds_gives (Gives X ps) (no_answer X ps) (slice_get b.pure k) NoSuchAtom _ (λ x at e.
-        let few = (small most ds b (same (Entail a (b ∷ [])) is).heaps.1.0).pures in short_at b.pure k x at (omega (arith, bounded.pure))))
+        let few = (small most ds b (same (Entail a (b ∷ [])) is).heaps.1.0).pures in
+        short_at b.pure k x at (omega (arith, bounded.pure))))
     rule_short (Frame i k) =
         let X = IsShortNumber i × IsShortNumber k in
         single_gives (Gives X ps) (no_answer X ps) j _ (λ a b is.
@@ -123,7 +125,8 @@ module _ (most : Limits) (bounded : AreLimits most) (ds : List Definition) (line
         let w = same (Entail a (b ∷ [])) is in
         let left = (small most ds a w.heaps.0).spatials in
         let right = (small most ds b w.heaps.1.0).spatials in
-        (short_at a.spatial i x at_i (omega (arith, bounded.spatial)), short_at b.spatial k y at_k (omega (arith, bounded.spatial))))))
+        (short_at a.spatial i x at_i (omega (arith, bounded.spatial)),
+        short_at b.spatial k y at_k (omega (arith, bounded.spatial))))))
     rule_short (UnfoldRight k c) =
         let X = IsShortNumber k × IsShortNumber c in
         single_gives (Gives X ps) (no_answer X ps) j _ (λ a b is.
@@ -134,7 +137,8 @@ module _ (most : Limits) (bounded : AreLimits most) (ds : List Definition) (line
         let X = IsShortNumber k in
         runs_gives (Gives X ps) (no_answer X ps) j _ (λ i a is.
         finds_gives (Gives X ps) (no_answer X ps) (slice_get a.spatial k) NoSuchAtom _ (λ x at e.
-        let few = (small most ds a (same (Runs i a) is).heaps.0).spatials in short_at a.spatial k x at (omega (arith, bounded.spatial))))
+        let few = (small most ds a (same (Runs i a) is).heaps.0).spatials in
+        short_at a.spatial k x at (omega (arith, bounded.spatial))))
     rule_short rule = λ e. tt
 
 -- ---- links
@@ -164,7 +168,8 @@ parts_short a bs b cs whole link few_atoms few_disjuncts e short =
       disjuncts = disjuncts_short bs link.disjuncts (map (apply_heap link.subst) cs) few_disjuncts parts.3;
     }
 
-pub link_short : (most : Limits) (ds : List Definition) (count p : ℕ) (bud companion : Judgement) (link : Link) → AreLimits most
+pub link_short : (most : Limits) (ds : List Definition) (count p : ℕ) (bud companion : Judgement) (link : Link)
+    → AreLimits most
     → IsJudgementWithin most ds count bud → link_fault bud companion link p ≡ None → IsShortNumber link.target
     → HasShortLink link
 link_short most ds count p (Entail a bs) (Entail b cs) link bounded h e short =

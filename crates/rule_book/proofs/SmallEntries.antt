@@ -21,7 +21,8 @@ fitting_below olds news (p ∷ ps) few fit =
     let within = slice_get_within olds p.old (Pred at.0 at.1) at.2 in
     (omega arith, fitting_below olds news ps few fit.1)
 
-pub link_pairs_small : (bud companion : Judgement) (link : Link) (p : ℕ) → length (antecedent bud).spatial ≤ MOST_SPATIAL
+pub link_pairs_small : (bud companion : Judgement) (link : Link) (p : ℕ)
+    → length (antecedent bud).spatial ≤ MOST_SPATIAL
     → link_fault bud companion link p ≡ None → Each (λ (p : Pair). p.old < 256) (link_premise companion link).pairs
 link_pairs_small bud companion link p few none =
     fitting_below (antecedent bud).spatial (antecedent companion).spatial (link_premise companion link).pairs few

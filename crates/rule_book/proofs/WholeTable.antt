@@ -30,7 +30,8 @@ use Rattle.rule_table.proofs.Keeps.{rule_keeps}
 use Rattle.symbolic_exec.proofs.ProgramLines.{program_commands}
 
 -- every rule but Exec, for any program with no more variables
-elsewhere : (most : Limits) (ds : List Definition) (program lines : List Command) (j : Judgement) (rule : Rule) → rule ≢ Exec
+elsewhere : (most : Limits) (ds : List Definition) (program lines : List Command) (j : Judgement) (rule : Rule)
+    → rule ≢ Exec
     → HasVariables lines (variables_of program j) j → IsUniversalHeap (antecedent j)
     → IsSound ds lines j (rule_answer most ds program j rule)
 elsewhere most ds program lines j Absurd other v u = absurd_is_sound ds lines j

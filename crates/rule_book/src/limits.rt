@@ -33,8 +33,8 @@ pub fn premises_stay_within()
         → rule_answer most ds lines j rule ≡ Ok ps → length ps ≤ MOST_CASES }
 {}
 
-/// A rule or a link without a fault names small numbers alone: places in short lists, so each fits nine digits. A link's target is no place in its bud, so no fault bounds it: it is the number of a node, and has to be
-/// short by itself.
+/// A rule or a link without a fault names small numbers alone: places in short lists, so each fits nine digits. A link's
+/// target is no place in its bud, so no fault bounds it: it is the number of a node, and has to be short by itself.
 pub fn reasons_are_short()
     ensures rules { (most : Limits) (ds : List Definition) (lines : List Command) (j : Judgement) (rule : Rule)
         (ps : List Premise) → AreLimits most → Each (IsDefinitionWithin most ds) ds

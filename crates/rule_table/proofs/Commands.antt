@@ -499,7 +499,8 @@ module _ (ds : List Definition) (lines : List Command) (i : ℕ) (a : SymbolicHe
       })) (free_sound t c at good found))
 
 module _ (ds : List Definition) (lines : List Command) where
-  pub exec_is_sound : (most : Limits) (j : Judgement) → Each IsCommand lines → IsSound ds lines j (exec_answer most lines j)
+  pub exec_is_sound : (most : Limits) (j : Judgement) → Each IsCommand lines
+      → IsSound ds lines j (exec_answer most lines j)
   exec_is_sound most (Entail a bs) good = tt
   exec_is_sound most (Runs i a) good =
       let n = fresh_number (program_variables lines) (Runs i a) in

@@ -299,7 +299,8 @@ lift j (Ok ps) a h = all ps a
     all [] b = tt
     all (p ∷ ps) b = (b.0 h, all ps b.1)
 
-exec_keeps : (most : Limits) (lines : List Command) (j : Judgement) → IsUniversalHeap (antecedent j) → Each IsCommand lines
+exec_keeps : (most : Limits) (lines : List Command) (j : Judgement) → IsUniversalHeap (antecedent j)
+    → Each IsCommand lines
     → OnPremises IsUniversalPremise (exec_answer most lines j)
 exec_keeps most lines (Entail a bs) h c = tt
 exec_keeps most lines (Runs i a) h c =

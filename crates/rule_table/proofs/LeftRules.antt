@@ -206,7 +206,8 @@ module _ (ds : List Definition) (lines : List Command) where
       finds_sound ds lines j (slice_get (antecedent j).spatial k) NoSuchAtom _
       (λ x at. unfold_call_sound most p j k x v at)
 
-  pub cut_is_sound : (most : Limits) (p : ℕ) (j : Judgement) (places : List ℕ) (f : SymbolicHeap) → HasVariables lines p j
+  pub cut_is_sound : (most : Limits) (p : ℕ) (j : Judgement) (places : List ℕ) (f : SymbolicHeap)
+      → HasVariables lines p j
       → IsSound ds lines j (cut_answer most p j places f)
   cut_is_sound most p j places f v =
       needs_sound ds lines j (ascend_from 0 (length (antecedent j).spatial) places) NoSuchAtom _ (λ _.

@@ -208,7 +208,8 @@ module _ (ds : List Definition) (lines : List Command) where
       let m = one_stage ds s e b.spatial h whole in
       inl (λ _. m.0, (e, (each_front (PureHolds s e) b.pure body.pure w.1.1.0, m.1))))
 
-  unfold_right_call_sound : (most : Limits) (a b : SymbolicHeap) (k c : ℕ) (x : Spatial) → slice_get b.spatial k ≡ Some x
+  unfold_right_call_sound : (most : Limits) (a b : SymbolicHeap) (k c : ℕ) (x : Spatial)
+      → slice_get b.spatial k ≡ Some x
       → IsSound ds lines (Entail a (b ∷ [])) (calls x (λ q ts.
       finds (slice_get (cases_of ds q) c) NoSuchCase (λ case.
       limited most (one (with_right a (unfolded b k (in_heap (right_term ts (heap_exists b)) case) ∷ []))))))

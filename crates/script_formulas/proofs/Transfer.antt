@@ -223,7 +223,8 @@ module _ (numbers : Numbers) (locations : List ℕ) where
             record { part = first.0; rest = others.0; union = whole.2; first = first.2; others = others.2 },
           )
 
-      pub atoms_back : IsBack P Q → (zs : List ScriptAtom) (ys : List Spatial) (h : Cells) → Each (InAtom (IsBound q)) zs
+      pub atoms_back : IsBack P Q → (zs : List ScriptAtom) (ys : List Spatial) (h : Cells)
+          → Each (InAtom (IsBound q)) zs
           → AllZip (IsSpatialOf numbers v) zs ys → SpatialHolds (λ _. Q) t e ys h
           → (H : SortedCells) × Encoded H h × SeparateAtomsHold locations P s own zs H
       atoms_back back [] [] h b i holds = (

@@ -330,7 +330,8 @@ module _ (t : Theory) (j : Judgement) where
       one_closes (b ∷ []) h = done_alone b
       one_closes (b ∷ c ∷ bs) h = absurd (omega (arith, h))
 
-      pub no_other_closes : (bs : List SymbolicHeap) → (length bs ≡ 1 → ⊥) → CloseAlike t j [] (entailment_after t j a bs)
+      pub no_other_closes : (bs : List SymbolicHeap) → (length bs ≡ 1 → ⊥)
+          → CloseAlike t j [] (entailment_after t j a bs)
       no_other_closes [] h = refl
       no_other_closes (b ∷ []) h = absurd (h refl)
       no_other_closes (b ∷ c ∷ bs) h = none_closes b c bs

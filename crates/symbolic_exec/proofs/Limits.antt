@@ -28,7 +28,8 @@ one_true : (p : Bool) → (p && true) && true ≡ p
 one_true true = refl
 one_true false = refl
 
-pub one_short : (most : Limits) (i : ℕ) (a b : SymbolicHeap) → each_heap (is_short most) (one (at_line i a b)) ≡ is_short most b
+pub one_short : (most : Limits) (i : ℕ) (a b : SymbolicHeap)
+    → each_heap (is_short most) (one (at_line i a b)) ≡ is_short most b
 one_short most i a b = one_true (is_short most b)
 
 pub sizes : (most : Limits) (p s : ℕ) (a b : SymbolicHeap) → length b.pure ≡ length a.pure + p

@@ -22,7 +22,8 @@ variables_up_to n (suc k) = Univ (min n 65535) ∷ variables_up_to (suc n) k
 
 -- within the limits with this many more pure atoms, and this many more spatial ones
 abbrev pub has_room_for : Limits → ℕ → ℕ → SymbolicHeap → Bool
-has_room_for most pure spatial a = nat_le (length a.pure + pure) most.pure && nat_le (length a.spatial + spatial) most.spatial
+has_room_for most pure spatial a =
+    nat_le (length a.pure + pure) most.pure && nat_le (length a.spatial + spatial) most.spatial
 
 -- a line of a program, a number for a fresh variable, and a limit of some version
 abbrev pub IsSetting : LineSetting → Type 0

@@ -4,4 +4,5 @@ use Rattle.pred_defs.specs.Faults.{has_many_pures}
 use Rattle.pred_defs.proofs.library.some_has_many_pures.Given as goal
 
 abbrev pub invariant-loop-case : goal.invariant-loop-case
-invariant-loop-case l = list_any (has_many_pures l.most) (drop l.case-index l.cases) ≡ list_any (has_many_pures l.most) l.cases
+invariant-loop-case l =
+    list_any (has_many_pures l.most) (drop l.case-index l.cases) ≡ list_any (has_many_pures l.most) l.cases

@@ -26,8 +26,8 @@ invariant_of-result c =
     c.args.picks.items c.args.outcome
     ≡ tree_of c.for_version-version.result c.set_most.new.self.list c.in_ok-program.program c.args.line
     c.in_ok-precondition.precondition c.from_vec.result c.args.heap c.args.picks.items c.args.outcome =
-    λ i. tree_of (sym c.for_version-version.ensures i) (sym definitions_are i) (sym program_is i) c.args.line (sym state_is i)
-    (sym c.from_vec.ensures i) c.args.heap c.args.picks.items c.args.outcome in
+    λ i. tree_of (sym c.for_version-version.ensures i) (sym definitions_are i) (sym program_is i) c.args.line
+    (sym state_is i) (sym c.from_vec.ensures i) c.args.heap c.args.picks.items c.args.outcome in
     record {
       limit = ap (λ (b : DefinitionBook). b.most) c.set_most.ensures ∙ c.limits.ensures.value;
       from_one = within.form.0;
