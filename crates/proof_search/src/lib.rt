@@ -4,8 +4,7 @@
 
 pub mod calculus;
 pub mod files;
-mod found;
-pub mod moves;
+mod logic;
 mod offering;
 mod prover;
 
