@@ -1,11 +1,12 @@
 -- The nodes of a graph before a goal, one after another.
-use Rattle.std.proofs.Common.{◌≡◌, ℕ, zero, suc, ◌+◌, ◌-◌, add-one, ◌<◌, Bool, true, false, List, [], ◌∷◌, ◌++◌, length}
+use Rattle.std.proofs.Common.{◌≡◌, ℕ, zero, suc, ◌+◌, ◌-◌, add-one, ◌<◌, Bool, List, [], ◌∷◌, ◌++◌, length}
 use Rattle.std.proofs.Common.{append_assoc, Some, None, slice_get, take, drop, arith, sym, refl, ap, ◌∙◌}
+use Rattle.std.proofs.Common.{if◌then◌else◌}
 use Rattle.cyc_basics.proofs.Places.{get_within}
 use Rattle.proof_graph.specs.declared.graph_nodes.NodeView.{NodeView}
 use Rattle.proof_graph.specs.declared.nodes.GraphNode.{GraphNode}
 use Rattle.proof_graph.specs.NodeViews.{IsViewed}
-use Rattle.search_moves.specs.Graphs.{fills, fills_one, parent_among}
+use Rattle.search_moves.specs.Graphs.{fills, parent_among}
 use Rattle.search_moves.specs.Places.{each_from}
 
 lower : {X : Type 0} (xs : List X) (n v : ℕ) (x : X) → v < n → slice_get xs v ≡ Some x
@@ -25,6 +26,12 @@ lower_given f xs n v items items' all l m given so_far =
     let cut : drop v (take n xs) ≡ there.0 ∷ drop (suc v) (take n xs) = lower xs n v there.0 l there.1 in
     let before : items ++ (f v there.0 ++ rest) ≡ all = rw cut at so_far in
     rw (add-one, given there.0 there.1, append_assoc items (f v there.0) rest) before
+
+-- as many as there are members
+pub one_each : {X Y : Type 0} (f : ℕ → X → Y) (k : ℕ) (xs : List X)
+    → length (each_from (λ v x. f v x ∷ []) k xs) ≡ length xs
+one_each f k [] = refl
+one_each f k (x ∷ xs) = ap suc (one_each f (suc k) xs)
 
 -- ---- the node above
 

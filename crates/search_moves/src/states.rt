@@ -17,8 +17,11 @@ use crate::folds::folds;
 use crate::setting::{GoalSetting, those_that_go};
 use crate::ways::{came_by_exec, was_worked_on};
 use cyc_basics::memory::OutOfMemory;
+use derivations::tableaux::MadeNode;
 use goto_lang::Program;
-use heap_formula::{Command, Heap, Pure, Rule, RuleError, RuleFault, Spatial, Term};
+use heap_formula::{
+    Command, Heap, Judgement, Pure, Reason, Rule, RuleError, RuleFault, Spatial, Term,
+};
 use rule_book::premises;
 use rule_table::equated;
 use std::alloc::Global;

@@ -1,5 +1,6 @@
 // The nodes above a goal and before it.
-ghost use Rattle.std.specs.Prelude.{◌≡◌, ◌&&◌, Bool, length};
+ghost use Rattle.std.specs.Prelude.{◌≡◌, ◌&&◌, Bool, length, slice_get};
+ghost use Rattle.std.specs.Option.{option_copied};
 ghost use Rattle.std.specs.List.{list_any};
 ghost use Rattle.derivations.specs.Calculus.{judgement_of};
 ghost use Rattle.search_moves.specs.Ways.{said_by};
@@ -40,6 +41,12 @@ fn way_of(reason: &Reason) -> Way
     }
 }
 
+fn node_at(made: &[MadeNode<Judgement, Reason>], v: u32) -> Option<&MadeNode<Judgement, Reason>>
+    ensures { option_copied result ≡ slice_get made.now v }
+{
+    made.get(v as usize)
+}
+
 /// Whether the first other rule above a premise of node `parent`, over Rewrite and Cut, is Exec.
 pub fn came_by_exec(made: &[MadeNode<Judgement, Reason>], parent: u32) -> bool
     ensures { result ≡ climbs made.now (length made.now) parent }
@@ -48,7 +55,7 @@ pub fn came_by_exec(made: &[MadeNode<Judgement, Reason>], parent: u32) -> bool
     let mut left = made.len();
     while left > 0 {
         left -= 1;
-        let Some(node) = made.get(v as usize) else {
+        let Some(node) = node_at(made, v) else {
             return false;
         };
         match way_of(&node.reason) {
