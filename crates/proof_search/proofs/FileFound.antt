@@ -6,7 +6,6 @@ use Rattle.rule_table.proofs.SameJudgements.{same_judgement_self}
 use Rattle.buchi_inclusion.specs.Answers.{state_limit}
 use Rattle.derivations.specs.System.{search_of, IsFound}
 use Rattle.derivations.specs.Tableau.{Tableau, replay}
-use Rattle.derivations.specs.Search.{EachFound}
 use Rattle.derivations.specs.Nodes.{MayStand, IsSmall}
 use Rattle.derivations.proofs.TableauFound.{all_rooted, all_standing, all_small, found_this}
 use Rattle.derivations.proofs.LogicMade.{AreNodes}

@@ -10,4 +10,5 @@ pub mod LinksFit
 pub mod Fair
 pub mod Within
 pub mod FileFound
+mod Closing
 mod Proofs

@@ -1,8 +1,7 @@
 -- The links that a goal is offered have no fault.
-use Rattle.std.proofs.Common.{◌≡◌, ℕ, Bool, true, List, Some, sym, subst}
+use Rattle.std.proofs.Common.{◌≡◌, Bool, true, List, Some, sym, subst}
 use Rattle.std.specs.Prelude.{slice_get}
 use Rattle.std.specs.Option.{is_none}
-use Rattle.heap_formula.specs.declared.judgements.Judgement.{Judgement}
 use Rattle.heap_formula.specs.declared.proof_rules.Link.{Link}
 use Rattle.heap_formula.specs.Words.{Each}
 use Rattle.rule_table.specs.LinkTable.{link_fault}

@@ -1,5 +1,5 @@
 -- What is found is a proof of the problem's goal.
-use Rattle.std.proofs.Common.{◌≡◌, ℕ, ◌<◌, ◌≤◌, List, map, Some, slice_get, length, arith, refl, sym, ap, subst, ◌∙◌}
+use Rattle.std.proofs.Common.{◌≡◌, ℕ, ◌<◌, ◌≤◌, List, length, arith, refl, sym, ap, subst, ◌∙◌}
 use Rattle.std.proofs.lemmas.Option.{slice_get_within, same_Some}
 use Rattle.cyc_basics.specs.Limits.{AreLimits}
 use Rattle.cyc_basics.specs.declared.limits.Limits.{Limits}
@@ -17,13 +17,12 @@ use Rattle.heap_syntax.specs.Versions.{limits as limits_of}
 use Rattle.heap_reader.proofs.Fitting.{most_fits}
 use Rattle.goto_lang.specs.Lines.{IsProgram}
 use Rattle.symbolic_exec.proofs.ProgramLines.{program_commands}
-use Rattle.buchi_inclusion.specs.Answers.{HasAtMost, state_limit}
+use Rattle.buchi_inclusion.specs.Answers.{state_limit}
 use Rattle.formula_reader.specs.declared.problem.Problem.{Problem}
 use Rattle.formula_reader.specs.Nodes.{IsNodeWithin}
 use Rattle.proof_file.specs.declared.file.ProofFile.{ProofFile}
 use Rattle.proof_file.specs.FileNodes.{FileNode}
 use Rattle.proof_check.specs.Files.{HasSmallHeaps}
-use Rattle.proof_check.specs.Verdicts.{IsCorrect, file_graph}
 use Rattle.proof_check.proofs.KeptFacts.{root_holds}
 use Rattle.rule_book.specs.Limits.{IsDefinitionWithin, IsHeapWithin, IsJudgementWithin}
 use Rattle.rule_book.proofs.Heaps.{short_spatials}
@@ -44,7 +43,7 @@ use Rattle.proof_search.specs.declared.prover.Proved.{Proved}
 use Rattle.proof_search.specs.declared.prover.Proved.TheVariants.{Found, NotFound, TooManyDerivations, TooManyStates}
 use Rattle.proof_search.specs.Calculus.{logic_over, calculus_of}
 use Rattle.proof_search.specs.Found.{nodes_made, AreProof}
-use Rattle.proof_search.specs.Moves.{Moves, calculus_in, occurs_in, allows_in, theory_in, IsOfProblem}
+use Rattle.proof_search.specs.Moves.{Moves, calculus_in, occurs_in, allows_in, IsOfProblem}
 use Rattle.proof_search.specs.Outcomes.{theory_for, search_for, outcome_of, IsFirst, IsFileOf, IsOver, IsProofFor}
 use Rattle.proof_search.specs.Outcomes.{IsProved, MayStandIn}
 use Rattle.proof_search.specs.Problems.{IsWithinLimits, MayGive}
@@ -133,7 +132,7 @@ module _ (problem : Problem) (may : IsWithinLimits (theory_for problem) problem.
   may_stand (searched.Found nodes) e is =
       let are = found_is nodes.items is e in
       let some = slice_get_within nodes.items 0 are.proof.root are.proof.is_root in
-      (omega (arith, some), (are.few, are.within))
+      (omega (arith, some), are.few, are.within)
   may_stand searched.NotFound e is = tt
   may_stand searched.TooManyDerivations e is = tt
   may_stand searched.TooManyStates e is = tt

@@ -71,11 +71,11 @@ IsFirst problem depth TooManyDerivations = Unit {0}
 IsFirst problem depth TooManyStates = Unit {0}
 
 -- what a search came to, with its nodes as a file of the problem
-pub record IsFileOf (problem : Problem) (nodes : List FileNode) (f : ProofFile) : Type 0 where
+pub record IsFileOf (problem : Problem) (found : List FileNode) (f : ProofFile) : Type 0 where
   pub version : f.version ≡ problem.version
   pub definitions : f.defs ≡ problem.defs
   pub program : f.program ≡ problem.program
-  pub nodes : f.nodes ≡ nodes
+  pub nodes : f.nodes ≡ found
 
 abbrev pub IsOver : Problem → ProvedBy Judgement Reason → Proved → Type 0
 IsOver problem (searched.Found nodes) (Found f) = IsFileOf problem nodes.items f

@@ -7,6 +7,7 @@ pub mod files;
 mod logic;
 mod offering;
 mod prover;
+mod rules;
 
 pub use cyc_basics::memory::OutOfMemory;
 pub use offering::offers;

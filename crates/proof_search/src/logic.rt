@@ -1,4 +1,8 @@
 // Separation logic as a logic whose derivations are searched for.
+ghost use Rattle.std.specs.Prelude.{◌≡◌, map, IfOk};
+ghost use Rattle.heap_formula.specs.declared.proof_rules.Reason.TheVariants.{Step as by_rule, Back as by_link};
+
+use crate::rules::RuleList;
 use cyc_basics::memory::OutOfMemory;
 use derivations::found::effect_of;
 use derivations::search::Offers;
@@ -9,9 +13,6 @@ use rule_book::reasons::SeparationLogic;
 use search_moves::{closing_offers, offers_of};
 use std::alloc::Global;
 use std::collections::VecDeque;
-
-ghost use Rattle.std.specs.Prelude.{◌≡◌, map, IfOk};
-ghost use Rattle.heap_formula.specs.declared.proof_rules.Reason.TheVariants.{Step as by_rule, Back as by_link};
 
 /// Separation logic with what goals are offered.
 #[derive(Drop)]
@@ -73,19 +74,21 @@ impl Logic for SeparationSearch<'_> {
 }
 
 impl Strategy for SeparationSearch<'_> {
-    type RuleCursor = VecDeque<Reason>;
+    type RuleCursor = RuleList;
 
     fn offers(
         &self,
         alloc: Global,
         made: &[MadeNode<Judgement, Reason>],
         goal: &OpenGoal<Judgement>,
-    ) -> Result<Offers<Reason>, OutOfMemory> {
+    ) -> Result<Offers<Reason, RuleList>, OutOfMemory> {
         let SeparationLogic { defs, program } = self.logic;
         let offered = offers_of(alloc, defs, program, made, goal)?;
         Ok(Offers {
             links: as_links(alloc, offered.links)?,
-            rules: as_rules(alloc, offered.rules)?,
+            rules: RuleList {
+                rules: as_rules(alloc, offered.rules)?,
+            },
         })
     }
 
@@ -95,7 +98,7 @@ impl Strategy for SeparationSearch<'_> {
         made: &[MadeNode<Judgement, Reason>],
         goal: &OpenGoal<Judgement>,
         most: usize,
-    ) -> Result<Offers<Reason>, OutOfMemory> {
+    ) -> Result<Offers<Reason, RuleList>, OutOfMemory> {
         if most > 0 {
             let offers = self.offers(alloc, made, goal)?;
             return Ok(offers);
@@ -104,7 +107,9 @@ impl Strategy for SeparationSearch<'_> {
         let offered = closing_offers(alloc, defs, program, made, goal)?;
         Ok(Offers {
             links: as_links(alloc, offered.links)?,
-            rules: as_rules(alloc, offered.rules)?,
+            rules: RuleList {
+                rules: as_rules(alloc, offered.rules)?,
+            },
         })
     }
 }
