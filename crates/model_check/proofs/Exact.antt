@@ -1,7 +1,8 @@
 -- The answer is exact.
 use Rattle.std.specs.Prelude.{◌↔◌, ◌==◌, IsTrue}
 use Rattle.std.proofs.Common.{◌≡◌, ℕ, ◌<◌, List, [], ◌∷◌, length, Bool, true, false, not, refl, sym, ap, ◌∙◌}
-use Rattle.std.proofs.Common.{subst, inl}
+use Rattle.std.proofs.Common.{suc, subst, inl, arith}
+use Rattle.std.proofs.lemmas.Bool.{ne_eqb}
 use Rattle.heap_formula.specs.declared.atoms.Spatial.{Spatial}
 use Rattle.heap_formula.specs.Symbolic.{SymbolicHeap}
 use Rattle.heap_formula.specs.Definitions.{Definition}
@@ -83,7 +84,7 @@ some_part ds h ns s a out ov b oe x e =
     any_part [] y = (λ t. absurd (let z : false ≡ true = t in cc), λ p. absurd (y.each p.0 p.1 p.2))
     any_part (ws ∷ row) y = (
       λ t. (part_of ns h (number ws), part_is_part ns h (number ws), y.satisfied (number ws) (inl refl)),
-      λ p. refl,
+      λ p. ap not (ne_eqb (suc (length row)) 0 (λ z. omega arith)),
     )
 
 -- ---- where no values of the locals fit
