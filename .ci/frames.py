@@ -95,10 +95,25 @@ FAILS = [
     # a pure atom that need not hold
     ("true : x -> (y)", "x != y : x -> (y)"),
     ("true : list(x)", "x = nil"),
+    # a nested list may be empty, and a pointer need not lead into the list
+    ("x != nil : lists(x)", "true : x -> (n', h') * h' -> (a')"),
+    ("y != nil : ls(x, nil)", "true : y -> (z')"),
 ]
 
-# questions of which nothing is said: what they have or lack is not found
+# questions of which nothing is said
 UNKNOWN = [
+    # each heap of the antecedent has a part that is what is asked for, but no frame is found
+    ("x != z : dll(x, w, z, v)", "true : v -> (z, p')"),
+    ("true : als(x, y) * als(y, z)", "true : als(x, z)"),
+    ("x != y : als(x, y) * y -> (z)", "true : als(x, z)"),
+    ("true : als(x, y) * ls(y, z)", "true : als(x, z)"),
+    ("true : ls(x, y) * ls(y, z)", "true : als(x, y)"),
+    ("true : ls(x, y)", "true : als(x, y)"),
+    # a cell is asked for at an address that nothing names: models are not looked for
+    ("x != nil : list(x)", "true : y' -> (nil)"),
+    ("x != nil : tree(x)", "true : l' -> (nil, nil)"),
+    ("true : list(x)", "true : y' -> (z')"),
+    ("true : emp", "true : y' -> (z')"),
 ]
 
 # texts that are no question, with the first line of their answer
