@@ -1,7 +1,7 @@
 use Rattle.std.proofs.Common.{◌∙◌, get_or, ap}
 use Rattle.heap_formula.specs.Definitions.{Definition}
 use Rattle.sat_pairs.proofs.Taken.{arity_read}
-use Rattle.sat_pairs.proofs.rounds.arity_at.Goals as goal
+use Rattle.sat_pairs.proofs.turns.arity_at.Goals as goal
 
 pub returns : goal.returns
 returns c =
