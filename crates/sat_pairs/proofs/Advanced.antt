@@ -254,3 +254,17 @@ stages_grown most k A B cell before done (s ∷ ss) g a =
       },
       stages_grown most k A B cell s.states.keys (length s.states.keys) ss g a.1,
     )
+
+-- ---- all is forgotten
+
+pub forgotten_stage : (most k : ℕ) (rest : List Spatial) (pairs before now : List BasePair) (done : ℕ) (s t : Stage)
+    → IsStage most k rest pairs before done s → IsAlike s t → t.taken ≡ 0 → t.states.keys ≡ [] → t.room ≡ most
+    → IsStage most k rest pairs now 0 t
+forgotten_stage most k rest pairs before now done s t is same taken states room = record {
+  at = alike_at k rest s t same is.at;
+  taken = taken_none pairs now t taken states;
+  room = subst (λ z. HasRoom most z t.room) (sym states) (record {
+    distinct = tt;
+    room = let z : sizes [] ≡ 0 = refl in omega arith;
+  });
+}

@@ -221,7 +221,7 @@ case_sound ds p k a e m b g = family_closed ds p b
     (one_in (CaseGives (InFamily ds) (arity_of ds p) b) (cases_of ds p) a m
     (subst (λ z. CaseGives (InFamily ds) z b a) e g))
 
-below_or : (p q : ℕ) → p < q + 1 → (p < q) ⊎ (p ≡ q)
+pub below_or : (p q : ℕ) → p < q + 1 → (p < q) ⊎ (p ≡ q)
 below_or zero zero l = inr refl
 below_or zero (suc q) l = inl (omega arith)
 below_or (suc p) zero l = absurd (omega arith)

@@ -2,7 +2,7 @@
 use Rattle.std.proofs.Common.{◌≡◌, ◌↔◌, ℕ, zero, suc, ◌+◌, ◌≤◌, ◌<◌, List, [], ◌∷◌, ◌++◌, take, length, map, arith, sym, refl}
 use Rattle.std.proofs.Common.{ap, ◌∙◌, ◌⊎◌, ◌-◌, drop, get_or, subst, inl, inr}
 use Rattle.std.specs.Prelude.{slice_index_or, slice_set}
-use Rattle.std.proofs.lemmas.List.{length-append, take-append-drop, take-append-le, take_more_set, take_rest}
+use Rattle.std.proofs.lemmas.List.{length-append, length-map, map-append, take-append-drop, take-append-le, take_more_set, take_rest}
 use Rattle.heap_formula.specs.declared.atoms.Pure.{Pure}
 use Rattle.heap_formula.specs.declared.atoms.Spatial.{Spatial}
 use Rattle.heap_formula.specs.Definitions.{Definition}
@@ -24,7 +24,7 @@ use Rattle.cyc_basics.specs.Words.{IsMember}
 use Rattle.heap_formula.proofs.AllMembers.{each_imply, each_last, each_set}
 use Rattle.pair_family.proofs.Large.{large_within}
 use Rattle.pair_family.proofs.Rounds.{gives_within}
-use Rattle.pair_family.proofs.Lists.{each_at, in_append, in_right, map_in}
+use Rattle.pair_family.proofs.Lists.{each_at, in_append, in_left, in_right, map_in}
 use Rattle.pair_family.proofs.Reordered.{reordered_give}
 use Rattle.pair_family.proofs.StatesFacts.{one_in, one_out, states_folded}
 use Rattle.sat_pairs.specs.declared.parts.Part.{Part}
@@ -44,7 +44,7 @@ use Rattle.sat_pairs.proofs.LargeParts.{large_passes, none_given, none_large, pa
 use Rattle.sat_pairs.proofs.PartLists.{whole_give}
 use Rattle.sat_pairs.proofs.Reached.{passes_first}
 use Rattle.sat_pairs.proofs.Staged.{take_whole}
-use Rattle.sat_pairs.proofs.Taken.{at_member}
+use Rattle.sat_pairs.proofs.Taken.{at_member, below_or}
 use Rattle.sat_pairs.proofs.Steps.{case_none, case_states, said_within}
 
 -- ---- lists
@@ -409,10 +409,44 @@ module _ (ds : List Definition) (states : ℕ) (A B : Table) (cell : List BasePa
   pub done_set : (T : Table) → IsGrown T A → i < length turns → IsDone ds states A B t
       → Each (IsDone ds states T A) (take i turns) → Each (IsDone ds states T B) (take (i + 1) (slice_set turns i t))
   done_set T g l is all = subst (Each (IsDone ds states T B)) (sym (take_more_set turns i t l))
-      (each_last (IsDone ds states T B) (take i turns) t (done_less ds states T A B t g is)
-      (each_imply (IsDone ds states T A) (IsDone ds states T B) (λ u old. done_grown ds states T A B u grown old)
-      (take i turns) all))
+      (each_last (IsDone ds states T B) (take i turns) t (each_imply (IsDone ds states T A) (IsDone ds states T B)
+      (λ u old. done_grown ds states T A B u grown old) (take i turns) all) (done_less ds states T A B t g is))
 
 pub has_turns : (ds : List Definition) (p : ℕ) (ts us : List Turn) → map case_of us ≡ map case_of ts → HasTurns ds p ts
     → HasTurns ds p us
 has_turns ds p ts us e h i l = subst (IsMember {X = ℕ × ℕ} (p, i)) (sym e) (h i l)
+
+-- ---- turns are pushed
+
+pub read_at : {X : Type 0} (xs : List X) (i : ℕ) (x d : X) → i < length xs → get_or xs i x ≡ x
+    → x ≡ slice_index_or xs i d
+read_at [] i x d l e = absurd (omega arith)
+read_at (y ∷ xs) zero x d l e = sym e
+read_at (y ∷ xs) (suc i) x d l e = read_at xs i x d (omega arith) e
+
+module _ (xs new : List Turn) (x : Turn) (e : new ≡ xs ++ (x ∷ [])) where
+  cases_are : map case_of new ≡ map case_of xs ++ (case_of x ∷ [])
+  cases_are = ap (map case_of) e ∙ map-append case_of xs (x ∷ [])
+
+  pub pushed_each : (P : Turn → Type 0) → Each P xs → P x → Each P new
+  pushed_each P all p = subst (Each P) (sym e) (each_last P xs x all p)
+
+  had_case : (c : ℕ × ℕ) → IsMember {X = ℕ × ℕ} c (map case_of xs) → IsMember {X = ℕ × ℕ} c (map case_of new)
+  had_case c m = subst (IsMember {X = ℕ × ℕ} c) (sym cases_are) (in_left {X = ℕ × ℕ} c (map case_of xs)
+      (case_of x ∷ []) m)
+
+  pub pushed_had : (ds : List Definition) (p : ℕ) → HasTurns ds p xs → HasTurns ds p new
+  pushed_had ds p h i l = had_case (p, i) (h i l)
+
+  pub pushed_has : (p n : ℕ) → x.pred ≡ p → x.place ≡ n
+      → ((i : ℕ) → i < n → IsMember {X = ℕ × ℕ} (p, i) (map case_of xs)) → (i : ℕ) → i < n + 1
+      → IsMember {X = ℕ × ℕ} (p, i) (map case_of new)
+  pushed_has p n ep en h i l =
+      elim (below_or i n l) [
+        | inl less ↦ had_case (p, i) (h i less)
+        | inr s ↦ subst (IsMember {X = ℕ × ℕ} (p, i)) (sym cases_are) (in_right {X = ℕ × ℕ} (p, i) (map case_of xs)
+            (case_of x ∷ []) (inl (λ j. (ep j, (en ∙ sym s) j))))
+      ]
+
+pub same_many : (ts us : List Turn) → map case_of us ≡ map case_of ts → length us ≡ length ts
+same_many ts us e = sym (length-map us case_of) ∙ (ap length e ∙ length-map ts case_of)

@@ -12,7 +12,7 @@ pub put-requires-clause-member : goal.put-requires-clause-member
 put-requires-clause-member c =
     let m = at_member c.args.found.now c.loop-known.known-index c.known-item.result c.loop-known-test.true
     (sym c.known-item.is) in
-    subst (InFamily c.args.defs.now.list c.args.pred) (sym c.in_ok-copy.ensures)
+    subst (InFamily c.args.defs.now.list c.args.pred) (sym c.in_ok-copy.ensures.cases)
     (c.requires.members c.known-item.result m)
 
 pub loop-known-preserved : goal.loop-known-preserved
@@ -27,7 +27,7 @@ loop-known-preserved c =
           c.in_ok-now.ensures.grown;
       done = λ b m. elim (c.loop-known.invariant.done b m) [
         | inl i ↦ elim (subst (IsMember b) here i) [
-          | inl s ↦ inr (subst (λ z. IsMember z (pairs_of c.put.new.table c.args.pred)) (c.in_ok-copy.ensures ∙ s)
+          | inl s ↦ inr (subst (λ z. IsMember z (pairs_of c.put.new.table c.args.pred)) (c.in_ok-copy.ensures.cases ∙ s)
               c.in_ok-now.ensures.taken)
           | inr r ↦ inl r
         ]

@@ -8,5 +8,5 @@ abbrev pub invariant-loop-place : goal.invariant-loop-place
 invariant-loop-place l = record {
   new : Each (IsNewTurn l.defs.list l.most) l.turns.items;
   had : (p : ℕ) → HasTurns l.defs.list p l.fn.turns.items → HasTurns l.defs.list p l.turns.items;
-  has : (i : ℕ) → i < l.place-index → IsMember {X = ℕ × ℕ} (l.pred, i) (map case_of l.turns.items);
+  has : (i : ℕ) → i < l.place → IsMember {X = ℕ × ℕ} (l.pred, i) (map case_of l.turns.items);
 }
