@@ -23,20 +23,20 @@ loop-agenda-init c =
     }
 
 pub work_through-requires-clause-cell : goal.work_through-requires-clause-cell
-work_through-requires-clause-cell c = c.deref-2.ensures.value ∙ c.in_ok-cell.ensures
+work_through-requires-clause-cell c = c.deref-in-loop-agenda.ensures.value ∙ c.in_ok-cell.ensures
 
 pub work_through-requires-clause-turns : goal.work_through-requires-clause-turns
 work_through-requires-clause-turns c =
     subst (λ z. Each (IsTurn c.args.defs.now.list c.args.limits.states c.loop-agenda.table z) c.loop-agenda.turns.items)
-    (sym c.deref-2.ensures.value) c.loop-agenda.invariant.turns
+    (sym c.deref-in-loop-agenda.ensures.value) c.loop-agenda.invariant.turns
 
 pub sweep-requires-clause-cell : goal.sweep-requires-clause-cell
-sweep-requires-clause-cell c = c.deref-3.ensures.value ∙ c.in_ok-cell.ensures
+sweep-requires-clause-cell c = c.deref-in-loop-agenda-2.ensures.value ∙ c.in_ok-cell.ensures
 
 pub sweep-requires-clause-turns : goal.sweep-requires-clause-turns
 sweep-requires-clause-turns c =
     subst (λ z. Each (IsTurn c.args.defs.now.list c.args.limits.states c.work_through.new.table z)
-    c.work_through.new.turns.items) (c.deref-2.ensures.value ∙ sym c.deref-3.ensures.value)
+    c.work_through.new.turns.items) (c.deref-in-loop-agenda.ensures.value ∙ sym c.deref-in-loop-agenda-2.ensures.value)
     c.in_ok-worked.ensures.turns
 
 pub loop-agenda-preserved : goal.loop-agenda-preserved
@@ -44,7 +44,7 @@ loop-agenda-preserved c = record {
   part = c.in_ok-now.ensures.part.0;
   count = c.in_ok-now.ensures.part.1;
   turns = subst (λ z. Each (IsTurn c.args.defs.now.list c.args.limits.states c.sweep.new.table z)
-      c.sweep.new.turns.items) c.deref-3.ensures.value c.in_ok-now.ensures.turns;
+      c.sweep.new.turns.items) c.deref-in-loop-agenda-2.ensures.value c.in_ok-now.ensures.turns;
   all = λ p l.
       has_turns c.args.defs.now.list p c.loop-agenda.turns.items c.sweep.new.turns.items
       (c.in_ok-now.ensures.same ∙ c.in_ok-worked.ensures.same) (c.loop-agenda.invariant.all p l);

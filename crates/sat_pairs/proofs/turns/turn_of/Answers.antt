@@ -1,9 +1,9 @@
-use Rattle.std.proofs.Common.{◌≡◌, ◌∙◌, refl, sym, subst}
+use Rattle.std.proofs.Common.{◌≡◌, ◌∙◌, ◌++◌, refl, sym, subst}
 use Rattle.pair_family.specs.JoinOrder.{join_order}
 use Rattle.sat_pairs.specs.declared.turns.Turn.{Turn}
 use Rattle.sat_pairs.specs.Parts.{AreWhole, atoms_of}
 use Rattle.sat_pairs.specs.Stages.{AreFresh}
-use Rattle.sat_pairs.specs.Turns.{IsFirst, IsTurnOf}
+use Rattle.sat_pairs.specs.Turns.{IsFirst, IsTurnOf, case_at}
 use Rattle.sat_pairs.proofs.Turned.{new_turn}
 use Rattle.sat_pairs.proofs.turns.turn_of.Goals as goal
 
@@ -26,13 +26,15 @@ returns-clause-new c = λ table cell.
     (subst (λ z. IsFirst k (atoms_of z) c.pure.result.now c.in_ok-first.first.items) c.deref.ensures.value
     c.in_ok-first.ensures) in
     let pushed = c.in_ok-push_stages.ensures in
-    let fresh = subst (λ z. AreFresh c.args.most k (atoms_of z) pushed.0) c.deref-2.ensures.value pushed.2 in
+    let more = subst (λ z. AreFresh c.args.most k (atoms_of z) pushed.0) c.deref-2.ensures.value pushed.2 in
+    let fresh = subst (λ z. AreFresh c.args.most k (atoms_of ordered) (z ++ pushed.0)) (sym c.new-stages.ensures.items)
+    more in
     let new = new_turn k c.args.most a table cell parts ordered t whole c.in_ok-ordered.ensures.all
     c.in_ok-ordered.ensures.order first (subst (AreFresh c.args.most k (atoms_of ordered)) (sym pushed.1) fresh)
     refl refl in
     record {
       pred = c.requires.pred;
       place = c.requires.place;
-      is = subst (λ z. IsTurnOf z _ c.args.most table cell t) c.requires.arity
+      is = subst (λ z. IsTurnOf z (case_at c.args._defs.now.list c.args.pred c.args.place) c.args.most table cell t) c.requires.arity
           (subst (λ z. IsTurnOf k z c.args.most table cell t) c.requires.case new);
     }
