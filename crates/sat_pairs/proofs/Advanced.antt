@@ -1,5 +1,5 @@
 -- Stages one behind the other.
-use Rattle.std.proofs.Common.{◌≡◌, ◌↔◌, ℕ, suc, ◌+◌, ◌≤◌, ◌<◌, List, [], ◌∷◌, ◌++◌, take, length, map, arith, sym, refl, ap}
+use Rattle.std.proofs.Common.{◌≡◌, ◌↔◌, ℕ, suc, ◌+◌, ◌≤◌, List, [], ◌∷◌, ◌++◌, take, length, arith, sym, refl, ap}
 use Rattle.std.proofs.Common.{◌∙◌, subst, inl, inr}
 use Rattle.std.proofs.lemmas.List.{append-nil, length-append, take-append-le}
 use Rattle.heap_formula.specs.declared.atoms.Spatial.{Spatial}
@@ -12,7 +12,7 @@ use Rattle.pair_family.specs.Labels.{Extends, Grows, HasRoom}
 use Rattle.pair_family.specs.LargeCases.{HasMore, sizes}
 use Rattle.pair_family.specs.Reordering.{families_of}
 use Rattle.pair_family.specs.States.{AreStates, Leads}
-use Rattle.pair_family.specs.Tables.{Table, pairs_of}
+use Rattle.pair_family.specs.Tables.{Table}
 use Rattle.pair_family.specs.Within.{IsWithin}
 use Rattle.heap_formula.specs.Words.{OneOf}
 use Rattle.cyc_basics.specs.Words.{IsMember}
@@ -20,14 +20,14 @@ use Rattle.sat_pairs.specs.declared.parts.Share.TheVariants.{All}
 use Rattle.sat_pairs.specs.declared.stages.Stage.{Stage}
 use Rattle.sat_pairs.specs.CaseStates.{PassesFrom}
 use Rattle.sat_pairs.specs.Growth.{IsGrown}
-use Rattle.sat_pairs.specs.Numbers.{cell_pair_alone, count_from, kept_numbers, places_in}
+use Rattle.sat_pairs.specs.Numbers.{cell_pair_alone, kept_numbers, places_in}
 use Rattle.sat_pairs.specs.Parts.{atom_pairs, atoms_of, lists_of}
 use Rattle.sat_pairs.specs.Stages.{AreFresh, AreStages, GivesAt, IsAlike, IsAt, IsFresh, IsFull, IsStage, IsTaken}
 use Rattle.sat_pairs.specs.Stages.{outcome, pairs_at, parts_of}
 use Rattle.sat_pairs.proofs.PartLists.{part_cell}
 use Rattle.sat_pairs.proofs.Reached.{passes_here, passes_later, passes_none, passes_nowhere}
 use Rattle.sat_pairs.proofs.Staged.{stage_many, stage_steps}
-use Rattle.sat_pairs.proofs.Steps.{Stepped, HasCellPair, of_list, fold_more, fold_within, leads, many_led}
+use Rattle.sat_pairs.proofs.Steps.{Stepped, HasCellPair, of_list, fold_within, leads, many_led}
 
 -- ---- one stage, and those behind it
 
@@ -106,8 +106,7 @@ module _ (most k : ℕ) (table : Table) (cell : List BasePair) where
       (atoms_of (parts_of ss)) (outcome before ss)
   stages_states cells before [] w a f = λ d. (λ m. m, λ m. m)
   stages_states cells before (s ∷ ss) w a f =
-      let rest = atoms_of (parts_of ss) in
-      (
+      let rest = atoms_of (parts_of ss) in (
         s.states.keys,
         stage_leads cells before s rest a.0.at w a.0.taken f.0,
         stages_states cells s.states.keys ss (stage_within cells before s rest a.0.at w a.0.taken f.0) a.1 f.1,

@@ -1,20 +1,19 @@
 -- A stage takes in more states and more base pairs.
-use Rattle.std.proofs.Common.{◌≡◌, ◌↔◌, ◌⊎◌, inl, inr, ℕ, ◌+◌, ◌≤◌, List, [], ◌∷◌, ◌++◌, take, drop, length, map, arith}
-use Rattle.std.proofs.Common.{sym, refl, ap, ◌∙◌, subst}
+use Rattle.std.proofs.Common.{◌≡◌, ◌⊎◌, inl, inr, ℕ, List, [], ◌∷◌, ◌++◌, take, drop, length, arith}
+use Rattle.std.proofs.Common.{sym, subst}
 use Rattle.std.proofs.lemmas.List.{take-append-drop, take_all}
 use Rattle.heap_formula.specs.declared.atoms.Spatial.{Spatial}
-use Rattle.heap_formula.specs.Words.{Each, OneOf}
+use Rattle.heap_formula.specs.Words.{OneOf}
 use Rattle.pair_family.specs.BasePairs.{BasePair}
-use Rattle.pair_family.specs.Labels.{Gives, GivesFrom, Grows, HasRoom}
-use Rattle.pair_family.specs.LargeCases.{HasMore, sizes}
-use Rattle.pair_family.specs.Tables.{Table}
+use Rattle.pair_family.specs.Labels.{Gives, GivesFrom, Grows}
+use Rattle.pair_family.specs.LargeCases.{HasMore}
 use Rattle.cyc_basics.specs.Words.{IsMember}
 use Rattle.heap_formula.proofs.StageLaws.{OneOf-map}
 use Rattle.pair_family.proofs.Large.{more_imply}
 use Rattle.sat_pairs.specs.declared.stages.Stage.{Stage}
 use Rattle.sat_pairs.specs.CaseStates.{GivesTo, StepsTo}
 use Rattle.sat_pairs.specs.Numbers.{count_from, kept_numbers, places_in}
-use Rattle.sat_pairs.specs.Stages.{GivesAt, IsAlike, IsAt, IsTaken, IsStage}
+use Rattle.sat_pairs.specs.Stages.{GivesAt, IsAt, IsTaken}
 use Rattle.pair_family.specs.Folding.{spoken}
 
 one_left : {X : Type 0} (P : X → Type 0) (xs ys : List X) → OneOf P xs → OneOf P (xs ++ ys)

@@ -13,10 +13,9 @@ use Rattle.pair_family.specs.Family.{CaseGives, InFamily, arity_of}
 use Rattle.pair_family.specs.LargeCases.{IsLarge, HasLargeCase}
 use Rattle.pair_family.specs.Tables.{IsTable, in_table, IsDistinct, Table, pairs_of, HasMoreThan, HasAtMost}
 use Rattle.cyc_basics.specs.Words.{IsMember}
-use Rattle.heap_formula.proofs.StageLaws.{OneOf-map}
-use Rattle.pair_family.proofs.Large.{cases_within, large_within}
+use Rattle.pair_family.proofs.Large.{cases_within}
 use Rattle.pair_family.proofs.Lists.{in_left, in_right, in_append, in_map, map_in, at_each}
-use Rattle.pair_family.proofs.Rounds.{at_most, closed_table, gives_within, family_closed}
+use Rattle.pair_family.proofs.Rounds.{at_most, closed_table, family_closed}
 use Rattle.pair_family.specs.declared.states.states.StatesFault.{StatesFault}
 use Rattle.pair_family.specs.declared.states.states.StatesFault.TheVariants.{TooManyStates, OutOfMemory}
 use Rattle.sat_pairs.specs.declared.rounds.PairFault.TheVariants as faults

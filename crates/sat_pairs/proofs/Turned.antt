@@ -10,13 +10,13 @@ use Rattle.heap_formula.specs.Meaning.{cases_of}
 use Rattle.heap_formula.specs.Symbolic.{SymbolicHeap}
 use Rattle.heap_formula.specs.Words.{Each, OneOf}
 use Rattle.pair_family.specs.BasePairs.{BasePair}
-use Rattle.pair_family.specs.Combination.{pure_facts, AreConsistent}
-use Rattle.pair_family.specs.Family.{CaseGives, InFamily, arity_of}
+use Rattle.pair_family.specs.Combination.{pure_facts}
+use Rattle.pair_family.specs.Family.{CaseGives, arity_of}
 use Rattle.pair_family.specs.Frames.{kept_terms, frames_of}
 use Rattle.pair_family.specs.JoinOrder.{join_order}
 use Rattle.pair_family.specs.Labels.{Extends}
-use Rattle.pair_family.specs.LargeCases.{HasMore, IsLarge, HasLargeCase, sizes}
-use Rattle.pair_family.specs.Reordering.{IsTakenOut, Reorders, families_of}
+use Rattle.pair_family.specs.LargeCases.{HasMore, IsLarge, sizes}
+use Rattle.pair_family.specs.Reordering.{Reorders, families_of}
 use Rattle.pair_family.specs.States.{AreStates, IsReached}
 use Rattle.pair_family.specs.Tables.{Table, in_table, pairs_of}
 use Rattle.pair_family.specs.Within.{IsWithin}
@@ -26,7 +26,7 @@ use Rattle.pair_family.proofs.Large.{large_within}
 use Rattle.pair_family.proofs.Rounds.{gives_within}
 use Rattle.pair_family.proofs.Lists.{each_at, in_append, in_left, in_right, map_in}
 use Rattle.pair_family.proofs.Reordered.{reordered_give}
-use Rattle.pair_family.proofs.StatesFacts.{one_in, one_out, states_folded}
+use Rattle.pair_family.proofs.StatesFacts.{one_out, states_folded}
 use Rattle.sat_pairs.specs.declared.parts.Part.{Part}
 use Rattle.sat_pairs.specs.declared.parts.Share.TheVariants.{All}
 use Rattle.sat_pairs.specs.declared.stages.Stage.{Stage}
@@ -228,7 +228,6 @@ module _ (ds : List Definition) (states : ℕ) (old new : Table) (turns : List T
   turn_at p i l m =
       let r = map_in case_of (p, i) turns (all p l i m) in
       (r.0, each_at (IsDone ds states old new) turns r.0 done r.1, r.2)
-
 
   pub all_given : (p : ℕ) → p < length ds → HasAllGiven old new p (arity_of ds p) (cases_of ds p)
   all_given p l b o =

@@ -103,7 +103,12 @@ fn start_at(
 }
 
 /// What the pure atoms say of the terms that the parts speak of and of the parameters, unless they exclude one another.
-pub fn start(alloc: Global, k: u32, parts: &[Part], pure: &[Pure]) -> Result<Option<Known>, OutOfMemory>
+pub fn start(
+    alloc: Global,
+    k: u32,
+    parts: &[Part],
+    pure: &[Pure],
+) -> Result<Option<Known>, OutOfMemory>
     ensures { IfOk result (Starts k (atoms_of parts.now) pure.now) }
 {
     let mut numbers = kept_numbers(alloc, k, parts)?;

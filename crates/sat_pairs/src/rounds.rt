@@ -151,14 +151,7 @@ fn put_found(
 {
     let found = turn.found();
     let end = found.len();
-    let now = put_all(
-        defs,
-        table,
-        count,
-        limits,
-        turn.pred,
-        &found[turn.put..],
-    )?;
+    let now = put_all(defs, table, count, limits, turn.pred, &found[turn.put..])?;
     turn.put = end;
     Ok(now)
 }
@@ -298,9 +291,7 @@ pub fn base_pairs(alloc: Global, defs: &Defs, limits: Limits) -> Result<Table, P
             count,
             limits,
         )?;
-        let now = sweep(
-            alloc, defs, &mut turns, &mut table, &cell, worked, limits,
-        )?;
+        let now = sweep(alloc, defs, &mut turns, &mut table, &cell, worked, limits)?;
         if now == worked {
             return Ok(table);
         }

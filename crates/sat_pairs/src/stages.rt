@@ -148,5 +148,14 @@ pub fn advance(
     let pairs = pairs_of_atom(table, cell, &stage.atom);
     let old = stage.states.len();
     stage.take_in(alloc, before, done, pairs)?;
-    advance(alloc, table, cell, _k, stage.states.as_slice(), old, rest, _most)
+    advance(
+        alloc,
+        table,
+        cell,
+        _k,
+        stage.states.as_slice(),
+        old,
+        rest,
+        _most,
+    )
 }

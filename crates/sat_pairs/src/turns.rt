@@ -38,12 +38,7 @@ pub struct Turn {
 
 /// What the pure atoms say of the terms that the parts speak of and of the parameters; nothing where they exclude one
 /// another.
-fn first_of(
-    alloc: Global,
-    k: u32,
-    parts: &[Part],
-    pure: &[Pure],
-) -> Result<Vec<Known>, OutOfMemory>
+fn first_of(alloc: Global, k: u32, parts: &[Part], pure: &[Pure]) -> Result<Vec<Known>, OutOfMemory>
     ensures { IfOk result (λ v. IsFirst k (atoms_of parts.now) pure.now v.items) }
 {
     let mut first = Vec::new(alloc);

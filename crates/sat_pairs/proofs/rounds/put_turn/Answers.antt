@@ -5,14 +5,13 @@ use Rattle.heap_formula.specs.Meaning.{cases_of}
 use Rattle.pair_family.specs.Family.{CaseGives, InFamily}
 use Rattle.pair_family.specs.LargeCases.{IsLarge}
 use Rattle.pair_family.specs.Tables.{in_table}
-use Rattle.cyc_basics.specs.Words.{IsMember}
 use Rattle.pair_family.proofs.Large.{large_within}
 use Rattle.pair_family.proofs.Rounds.{gives_within}
 use Rattle.sat_pairs.specs.declared.rounds.PairFault.TheVariants as faults
 use Rattle.sat_pairs.specs.Growth.{pair_fault_of}
 use Rattle.sat_pairs.specs.Parts.{HasSome}
 use Rattle.sat_pairs.specs.Stages.{parts_of}
-use Rattle.sat_pairs.specs.Turns.{IsDone, IsTurn, found_by, heap_of, width_of}
+use Rattle.sat_pairs.specs.Turns.{IsDone, IsTurn, heap_of}
 use Rattle.sat_pairs.proofs.Taken.{case_sound, large_there, states_fault}
 use Rattle.sat_pairs.proofs.Turned.{done_none, done_put, index_member, turn_put}
 use Rattle.sat_pairs.proofs.rounds.put_turn.Goals as goal

@@ -1,4 +1,4 @@
-use Rattle.std.proofs.Common.{◌≡◌, ◌∙◌, ◌<◌, length, sym, subst, arith}
+use Rattle.std.proofs.Common.{◌∙◌, ◌<◌, length, sym, arith}
 use Rattle.sat_pairs.specs.Turns.{IsTurn, case_of}
 use Rattle.sat_pairs.proofs.Taken.{grown_then}
 use Rattle.sat_pairs.proofs.Turned.{each_get, map_set, turns_set}

@@ -1,4 +1,4 @@
-use Rattle.std.proofs.Common.{◌≡◌, ◌∷◌, Err, suc, length, sym, ap, subst, arith}
+use Rattle.std.proofs.Common.{◌≡◌, Err, suc, length, sym, ap, subst, arith}
 use Rattle.std.proofs.lemmas.Result.{IfOk-weaker, err_from_is_err_and}
 use Rattle.heap_formula.specs.Words.{Each}
 use Rattle.pair_family.specs.Frames.{kept_terms, frames_of}

@@ -1,7 +1,6 @@
-use Rattle.std.proofs.Common.{◌≡◌, ◌∙◌, ◌<◌, [], length, sym, subst, arith}
+use Rattle.std.proofs.Common.{◌≡◌, ◌<◌, [], length, sym, subst, arith}
 use Rattle.std.specs.Prelude.{slice_index_or}
-use Rattle.heap_formula.specs.Meaning.{cases_of}
-use Rattle.sat_pairs.specs.Turns.{IsNewTurn, case_at}
+use Rattle.sat_pairs.specs.Turns.{IsNewTurn}
 use Rattle.sat_pairs.proofs.Turned.{pushed_each, pushed_had, pushed_has, read_at}
 use Rattle.sat_pairs.proofs.turns.push_turns.Goals as goal
 

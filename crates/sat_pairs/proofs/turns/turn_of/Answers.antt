@@ -1,5 +1,4 @@
-use Rattle.std.proofs.Common.{◌≡◌, ◌∙◌, ◌++◌, refl, sym, subst}
-use Rattle.pair_family.specs.JoinOrder.{join_order}
+use Rattle.std.proofs.Common.{◌++◌, refl, sym, subst}
 use Rattle.sat_pairs.specs.declared.turns.Turn.{Turn}
 use Rattle.sat_pairs.specs.Parts.{AreWhole, atoms_of}
 use Rattle.sat_pairs.specs.Stages.{AreFresh}
