@@ -75,7 +75,8 @@ module _ (most k : ℕ) (table : Table) (cell : List BasePair) where
         s.atom rest (many_led most' k s.atom rest pairs before has within (stage_many k rest s at before pairs most' h))
 
     module _ (taken : IsTaken pairs before (length before) s) (full : s.taken ≡ length pairs) where
-      stepped : Stepped s.atom (kept_numbers k (s.atom ∷ rest)) (length (kept_numbers k rest)) pairs before s.states.keys
+      stepped : Stepped s.atom (kept_numbers k (s.atom ∷ rest)) (length (kept_numbers k rest)) pairs before
+          s.states.keys
       stepped = stage_steps k rest s at before pairs taken full
 
       pub stage_leads : (d : BasePair) → IsMember d s.states.keys ↔ OneOf (Leads (of_list pairs)
@@ -122,7 +123,8 @@ module _ (most k : ℕ) (table : Table) (cell : List BasePair) where
       let rest = atoms_of (parts_of ss) in
       let r = a.0.room.room in
       stage_nowhere cells before s rest a.0.at w a.0.taken f.0 most (lists_of table cell (parts_of ss)) few
-      (stages_few cells s.states.keys ss (stage_within cells before s rest a.0.at w a.0.taken f.0) (omega arith) a.1 f.1)
+      (stages_few cells s.states.keys ss (stage_within cells before s rest a.0.at w a.0.taken f.0) (omega arith)
+      a.1 f.1)
 
 -- ---- the first stage, and then the others
 
@@ -210,7 +212,8 @@ fresh_stage most k x rest pairs before s f = record {
   });
 }
 
-pub fresh_atoms : (most k : ℕ) (xs : List Spatial) (ss : List Stage) → AreFresh most k xs ss → atoms_of (parts_of ss) ≡ xs
+pub fresh_atoms : (most k : ℕ) (xs : List Spatial) (ss : List Stage) → AreFresh most k xs ss
+    → atoms_of (parts_of ss) ≡ xs
 fresh_atoms most k [] ss f = ap (λ z. atoms_of (parts_of z)) f
 fresh_atoms most k (x ∷ xs) [] f = absurd f
 fresh_atoms most k (x ∷ xs) (s ∷ ss) f = λ i. f.0.atom i ∷ fresh_atoms most k xs ss f.1 i

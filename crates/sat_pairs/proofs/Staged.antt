@@ -155,7 +155,8 @@ module _ (k : ℕ) (rest : List Spatial) (s : Stage) (at : IsAt k rest s) (befor
       (subst (λ z. P s.numbers.items z (count_from 0 (length (kept_numbers k rest)))) at.places
       (subst (λ z. P s.numbers.items s.places.items z) at.kept p))
 
-  pub stage_many : (most : ℕ) → HasMore most (GivesAt s before pairs) → HasMore most (GivesTo k s.atom rest pairs before)
+  pub stage_many : (most : ℕ) → HasMore most (GivesAt s before pairs)
+      → HasMore most (GivesTo k s.atom rest pairs before)
   stage_many most h = at_step (λ n p q. HasMore most (GivesFrom n before p q pairs)) h
 
   pub stage_steps : IsTaken pairs before (length before) s → s.taken ≡ length pairs

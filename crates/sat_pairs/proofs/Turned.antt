@@ -1,8 +1,9 @@
 -- Turns of cases.
-use Rattle.std.proofs.Common.{◌≡◌, ◌↔◌, ℕ, zero, suc, ◌+◌, ◌≤◌, ◌<◌, List, [], ◌∷◌, ◌++◌, take, length, map, arith, sym, refl}
-use Rattle.std.proofs.Common.{ap, ◌∙◌, ◌⊎◌, ◌-◌, drop, get_or, subst, inl, inr}
+use Rattle.std.proofs.Common.{◌≡◌, ◌↔◌, ℕ, zero, suc, ◌+◌, ◌≤◌, ◌<◌, List, [], ◌∷◌, ◌++◌, take, length, map, arith}
+use Rattle.std.proofs.Common.{sym, refl, ap, ◌∙◌, ◌⊎◌, ◌-◌, drop, get_or, subst, inl, inr}
 use Rattle.std.specs.Prelude.{slice_index_or, slice_set}
-use Rattle.std.proofs.lemmas.List.{length-append, length-map, map-append, take-append-drop, take-append-le, take_more_set, take_rest}
+use Rattle.std.proofs.lemmas.List.{length-append, length-map, map-append, take-append-drop, take-append-le}
+use Rattle.std.proofs.lemmas.List.{take_more_set, take_rest}
 use Rattle.heap_formula.specs.declared.atoms.Pure.{Pure}
 use Rattle.heap_formula.specs.declared.atoms.Spatial.{Spatial}
 use Rattle.heap_formula.specs.Definitions.{Definition}
@@ -123,7 +124,8 @@ module _ (k : ℕ) (a : SymbolicHeap) (table : Table) (cell : List BasePair) (xs
 
   parts_case : (d : BasePair) → PartsGive table cell k a.pure d xs ↔ CaseGives (in_table table) k d a
   parts_case d =
-      let same = reordered_give (λ (x : Part). x.atom) (part_pairs table cell) k a.pure d xs ordered.parts ordered.all in
+      let same = reordered_give (λ (x : Part). x.atom) (part_pairs table cell) k a.pure d xs ordered.parts
+      ordered.all in
       let whole = whole_give table cell k a.pure d a.spatial ordered.parts ordered.whole in
       (λ g. whole.0 (same.0 g), λ c. same.1 (whole.1 c))
 
@@ -163,7 +165,8 @@ module _ (k : ℕ) (a : SymbolicHeap) (table : Table) (cell : List BasePair) (xs
         no_states : (n : ℕ) → HasMore most (IsReached (families_of lists) (frames_of k atoms) [] (take n atoms)) → ⊥
         no_states n h = by h.list h.are h.more
           where
-            by : (list : List BasePair) → Each (IsReached (families_of lists) (frames_of k atoms) [] (take n atoms)) list
+            by : (list : List BasePair)
+                → Each (IsReached (families_of lists) (frames_of k atoms) [] (take n atoms)) list
                 → most < sizes list → ⊥
             by [] e l = let z : sizes [] ≡ 0 = refl in absurd (omega arith)
             by (d ∷ list) e l = e.0.1
@@ -312,7 +315,8 @@ done_none ds states T cell t cells is none = record {
 
 -- ---- all base pairs are taken in
 
-module _ (ds : List Definition) (most : ℕ) (T : Table) (cell : List BasePair) (t : Turn) (cells : cell ≡ cell_pair_alone)
+module _ (ds : List Definition) (most : ℕ) (T : Table) (cell : List BasePair) (t : Turn)
+    (cells : cell ≡ cell_pair_alone)
     (is : IsTurn ds most T cell t) where
   abbrev k : ℕ
   k = width_of ds t

@@ -11,7 +11,8 @@ ghost use Rattle.pair_family.specs.Within.{IsWithin};
 ghost use Rattle.sat_pairs.specs.CaseStates.{PassesFrom};
 ghost use Rattle.sat_pairs.specs.Numbers.{cell_pair_alone};
 ghost use Rattle.sat_pairs.specs.Parts.{atoms_of, lists_of};
-ghost use Rattle.sat_pairs.specs.Stages.{AreFresh, AreStages, GivesAt, IsAlike, IsFresh, IsFull, IsTaken, outcome, parts_of};
+ghost use Rattle.sat_pairs.specs.Stages.{AreFresh, AreStages, GivesAt, IsAlike, IsFresh, IsFull, IsTaken};
+ghost use Rattle.sat_pairs.specs.Stages.{outcome, parts_of};
 ghost use Rattle.sat_pairs.specs.declared.stages.Stage.{Stage};
 
 use crate::cases::places_for;

@@ -34,6 +34,7 @@ returns-clause-new c = λ table cell.
     record {
       pred = c.requires.pred;
       place = c.requires.place;
-      is = subst (λ z. IsTurnOf z (case_at c.args._defs.now.list c.args.pred c.args.place) c.args.most table cell t) c.requires.arity
+      is = subst (λ z. IsTurnOf z (case_at c.args._defs.now.list c.args.pred c.args.place) c.args.most table cell t)
+          c.requires.arity
           (subst (λ z. IsTurnOf k z c.args.most table cell t) c.requires.case new);
     }
