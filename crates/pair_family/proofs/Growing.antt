@@ -1,9 +1,10 @@
 -- Lists of base pairs that grow.
-use Rattle.std.proofs.Common.{◌≡◌, ◌↔◌, ◌⊎◌, inl, inr, Bool, true, false, List, [], ◌∷◌, ◌++◌, sym, ◌∙◌, subst}
+use Rattle.std.proofs.Common.{◌≡◌, ◌↔◌, ◌⊎◌, inl, inr, Bool, true, false, List, [], ◌∷◌, ◌++◌, sym, ap, ◌∙◌, subst}
+use Rattle.std.proofs.lemmas.List.{append-nil, append_assoc}
 use Rattle.heap_formula.specs.Words.{OneOf}
 use Rattle.pair_family.specs.BasePairs.{BasePair}
 use Rattle.cyc_basics.specs.Words.{IsMember}
-use Rattle.pair_family.specs.Labels.{Grows, IsAdded}
+use Rattle.pair_family.specs.Labels.{Extends, Grows, IsAdded}
 use Rattle.pair_family.proofs.Lists.{in_left, in_right, in_append}
 
 pub grows_new : (old new : List BasePair) (k : BasePair) → new ≡ old ++ (k ∷ []) → Grows old new (λ d. d ≡ k)
@@ -74,3 +75,15 @@ grows_end old now G all inv d = (λ i. (inv d).0 (inl i), λ o. elim ((inv d).1 
 pub grows_added : (old new : List BasePair) (k : BasePair) (b : Bool) → IsAdded old new k b → Grows old new (λ d. d ≡ k)
 grows_added old new k true a = grows_new old new k a.1
 grows_added old new k false a = grows_there old new k a.1 a.0
+
+-- ---- what was there stays in front
+
+pub extends_self : (xs : List BasePair) → Extends xs xs
+extends_self xs = ([], sym (append-nil xs))
+
+pub extends_then : (xs ys zs : List BasePair) → Extends xs ys → Extends ys zs → Extends xs zs
+extends_then xs ys zs a b = (a.0 ++ b.0, b.1 ∙ (ap (λ z. z ++ b.0) a.1 ∙ append_assoc xs a.0 b.0))
+
+pub extends_added : (old new : List BasePair) (k : BasePair) (b : Bool) → IsAdded old new k b → Extends old new
+extends_added old new k true a = (k ∷ [], a.1)
+extends_added old new k false a = ([], a.1 ∙ sym (append-nil old))

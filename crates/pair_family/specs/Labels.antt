@@ -125,6 +125,10 @@ GivesFrom start bs places kept cs d = OneOf (λ b. OneOf (Gives start b places k
 abbrev pub Grows : List BasePair → List BasePair → (BasePair → Type 0) → Type 0
 Grows old new G = (d : BasePair) → OneOf (λ e. e ≡ d) new ↔ (OneOf (λ e. e ≡ d) old ⊎ G d)
 
+-- the new list begins with the old one
+abbrev pub Extends : List BasePair → List BasePair → Type 0
+Extends old new = (rest : List BasePair) × (new ≡ old ++ rest)
+
 -- the list after a base pair was added, with whether it is new
 abbrev pub IsAdded : List BasePair → List BasePair → BasePair → Bool → Type 0
 IsAdded old new b true = (¬ OneOf (λ e. e ≡ b) old) × (new ≡ old ++ b ∷ [])

@@ -10,3 +10,6 @@ pub mod Taken
 pub mod Joins
 pub mod Reached
 pub mod LargeParts
+mod Staged
+mod Advanced
+mod Turned

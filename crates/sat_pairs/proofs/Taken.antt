@@ -1,7 +1,7 @@
 -- A base pair more: what a table has then, and how many.
 use Rattle.std.proofs.Common.{◌≡◌, ◌⊎◌, inl, inr, ℕ, zero, suc, ◌+◌, ◌<◌, ◌≤◌, List, [], ◌∷◌, ◌++◌, map, length, get_or}
 use Rattle.std.proofs.Common.{Bool, true, false, arith, sym, refl, ap, ◌∙◌, subst}
-use Rattle.std.proofs.lemmas.List.{length-map, length-append}
+use Rattle.std.proofs.lemmas.List.{append-nil, append_assoc, length-map, length-append}
 use Rattle.std.proofs.lemmas.Bool.{both_ways}
 use Rattle.std.specs.Prelude.{replicate}
 use Rattle.heap_formula.specs.Symbolic.{SymbolicHeap}
@@ -13,10 +13,9 @@ use Rattle.pair_family.specs.Family.{CaseGives, InFamily, arity_of}
 use Rattle.pair_family.specs.LargeCases.{IsLarge, HasLargeCase}
 use Rattle.pair_family.specs.Tables.{IsTable, in_table, IsDistinct, Table, pairs_of, HasMoreThan, HasAtMost}
 use Rattle.cyc_basics.specs.Words.{IsMember}
-use Rattle.heap_formula.proofs.StageLaws.{OneOf-map}
-use Rattle.pair_family.proofs.Large.{cases_within, large_within}
+use Rattle.pair_family.proofs.Large.{cases_within}
 use Rattle.pair_family.proofs.Lists.{in_left, in_right, in_append, in_map, map_in, at_each}
-use Rattle.pair_family.proofs.Rounds.{at_most, closed_table, gives_within, family_closed}
+use Rattle.pair_family.proofs.Rounds.{at_most, closed_table, family_closed}
 use Rattle.pair_family.specs.declared.states.states.StatesFault.{StatesFault}
 use Rattle.pair_family.specs.declared.states.states.StatesFault.TheVariants.{TooManyStates, OutOfMemory}
 use Rattle.sat_pairs.specs.declared.rounds.PairFault.TheVariants as faults
@@ -45,6 +44,14 @@ pub with_there : (T : Table) (p : ℕ) (k : BasePair) → p < length T → IsMem
 with_there [] p k l = absurd (omega arith)
 with_there (r ∷ T) zero k l = in_right k r (k ∷ []) (inl refl)
 with_there (r ∷ T) (suc p) k l = with_there T p k (omega arith)
+
+with_extends : (T : Table) (p : ℕ) (k : BasePair) (q : ℕ)
+    → (rest : List BasePair) × (pairs_of (with_pair T p k) q ≡ pairs_of T q ++ rest)
+with_extends [] p k q = ([], sym (append-nil (pairs_of [] q)))
+with_extends (r ∷ T) zero k zero = (k ∷ [], refl)
+with_extends (r ∷ T) zero k (suc q) = ([], sym (append-nil (pairs_of T q)))
+with_extends (r ∷ T) (suc p) k zero = ([], sym (append-nil r))
+with_extends (r ∷ T) (suc p) k (suc q) = with_extends T p k q
 
 with_distinct : (T : Table) (p : ℕ) (k : BasePair) → ((q : ℕ) → IsDistinct (pairs_of T q))
     → (¬ IsMember k (pairs_of T p)) → (q : ℕ) → IsDistinct (pairs_of (with_pair T p k) q)
@@ -81,6 +88,7 @@ module _ (ds : List Definition) (most : ℕ) (T : Table) (p : ℕ) (k : BasePair
   pub grown_more : IsGrown T (with_pair T p k)
   grown_more = record {
     within = λ q b m. with_in T p k q b m;
+    extends = λ q. with_extends T p k q;
     more = let a = with_total T p k there in omega arith;
     same = λ e. absurd (let a = with_total T p k there in omega arith);
   }
@@ -92,6 +100,8 @@ count_more T p k n l e = let a = with_total T p k l in omega arith
 pub grown_then : (A B C : Table) → IsGrown A B → IsGrown B C → IsGrown A C
 grown_then A B C f g = record {
   within = λ q b m. g.within q b (f.within q b m);
+  extends = λ q. let a = f.extends q in let b = g.extends q in
+      (a.0 ++ b.0, b.1 ∙ (ap (λ z. z ++ b.0) a.1 ∙ append_assoc (pairs_of A q) a.0 b.0));
   more = let x = f.more in let y = g.more in omega arith;
   same = λ e. let x = f.more in let y = g.more in let c = g.same (omega arith) in c ∙ f.same (ap total (sym c) ∙ e);
 }
@@ -195,6 +205,14 @@ at_member [] i x l e = absurd (omega arith)
 at_member (y ∷ xs) zero x l e = inl e
 at_member (y ∷ xs) (suc i) x l e = inr (at_member xs i x (omega arith) e)
 
+pub grown_self : (T : Table) → IsGrown T T
+grown_self T = record {
+  within = λ p b m. m;
+  extends = λ p. ([], sym (append-nil (pairs_of T p)));
+  more = omega arith;
+  same = λ e. refl;
+}
+
 -- what a case gives with the family is in the family
 pub case_sound : (ds : List Definition) (p : ℕ) (k : ℕ) (a : SymbolicHeap) → k ≡ arity_of ds p
     → IsMember a (cases_of ds p) → (b : BasePair) → CaseGives (InFamily ds) k b a → InFamily ds p b
@@ -202,13 +220,13 @@ case_sound ds p k a e m b g = family_closed ds p b
     (one_in (CaseGives (InFamily ds) (arity_of ds p) b) (cases_of ds p) a m
     (subst (λ z. CaseGives (InFamily ds) z b a) e g))
 
-below_or : (p q : ℕ) → p < q + 1 → (p < q) ⊎ (p ≡ q)
+pub below_or : (p q : ℕ) → p < q + 1 → (p < q) ⊎ (p ≡ q)
 below_or zero zero l = inr refl
 below_or zero (suc q) l = inl (omega arith)
 below_or (suc p) zero l = absurd (omega arith)
 below_or (suc p) (suc q) l = elim (below_or p q (omega arith)) [ inl a ↦ inl (omega arith) | inr e ↦ inr (ap suc e) ]
 
-cases_below : (p n : ℕ) → (p < n) ⊎ (n ≤ p)
+pub cases_below : (p n : ℕ) → (p < n) ⊎ (n ≤ p)
 cases_below p zero = inr (omega arith)
 cases_below zero (suc n) = inl (omega arith)
 cases_below (suc p) (suc n) = elim (cases_below p n) [ inl l ↦ inl (omega arith) | inr g ↦ inr (omega arith) ]
@@ -267,45 +285,6 @@ empty_part ds most T e = subst (IsPartOf ds most) (sym e) (record {
 pub empty_count : (n : ℕ) (T : Table) → T ≡ replicate n [] → 0 ≡ total T
 empty_count n T e = sym (ap total e ∙ empty_total n)
 
--- what is given by one case more
-pub given_more : (A B C : Table) (p k : ℕ) (x : SymbolicHeap) (rest : List SymbolicHeap) → IsGrown A B → IsGrown B C
-    → ((b : BasePair) → CaseGives (in_table B) k b x → IsMember b (pairs_of C p)) → (b : BasePair)
-    → IsMember b (pairs_of B p) ⊎ OneOf (CaseGives (in_table A) k b) (x ∷ rest)
-    → IsMember b (pairs_of C p) ⊎ OneOf (CaseGives (in_table A) k b) rest
-given_more A B C p k x rest f g h b o =
-    elim o [
-      | inl m ↦ inl (g.within p b m)
-      | inr r ↦ elim r [
-        | inl y ↦ inl (h b (gives_within (in_table A) (in_table B) (λ q d m. f.within q d m) k b x y))
-        | inr z ↦ inr z
-      ]
-    ]
-
--- no case so far is large, nor one case more
-pub small_more : (states : ℕ) (A B : Table) (k : ℕ) (x : SymbolicHeap) (rest all : List SymbolicHeap) → IsGrown A B
-    → ¬ IsLarge states (in_table B) k x → (OneOf (IsLarge states (in_table A) k) all
-    → OneOf (IsLarge states (in_table A) k) (x ∷ rest)) → OneOf (IsLarge states (in_table A) k) all
-    → OneOf (IsLarge states (in_table A) k) rest
-small_more states A B k x rest all f n left o =
-    elim (left o) [
-      | inl l ↦ absurd (n (large_within (in_table A) (in_table B) (λ q d m. f.within q d m) states k x l))
-      | inr r ↦ r
-    ]
-
--- nor one definition more
-pub smalls_more : (ds : List Definition) (states : ℕ) (A B : Table) (q : ℕ) → IsGrown A B
-    → ((p : ℕ) → p < q → ¬ OneOf (IsLarge states (in_table A) (arity_of ds p)) (cases_of ds p))
-    → ¬ OneOf (IsLarge states (in_table B) (arity_of ds q)) (cases_of ds q) → (p : ℕ) → p < q + 1
-    → ¬ OneOf (IsLarge states (in_table A) (arity_of ds p)) (cases_of ds p)
-smalls_more ds states A B q f done here p l o =
-    elim (below_or p q l) [
-      | inl less ↦ done p less o
-      | inr e ↦
-          here (OneOf-map (IsLarge states (in_table A) (arity_of ds q)) (IsLarge states (in_table B) (arity_of ds q))
-          (large_within (in_table A) (in_table B) (λ r d m. f.within r d m) states (arity_of ds q)) (cases_of ds q)
-          (subst (λ z. OneOf (IsLarge states (in_table A) (arity_of ds z)) (cases_of ds z)) e o))
-    ]
-
 pub states_fault : (f : StatesFault) → pair_fault_of f ≡ faults.TooManyStates → f ≡ TooManyStates
 states_fault TooManyStates e = refl
 states_fault OutOfMemory e = absurd (let g : faults.OutOfMemory ≡ faults.TooManyStates = e in cc)
@@ -329,48 +308,7 @@ none_large ds states T none h =
       | inr g ↦ no_cases ds h.0 (IsLarge states (in_table T) (arity_of ds h.0)) g h.1
     ]
 
--- what is given by one definition more
-pub all_more : (ds : List Definition) (A B C : Table) (q : ℕ) → IsGrown A B → IsGrown B C
-    → ((p : ℕ) → p < q → HasAllGiven A B p (arity_of ds p) (cases_of ds p))
-    → HasAllGiven B C q (arity_of ds q) (cases_of ds q) → (p : ℕ) → p < q + 1
-    → HasAllGiven A C p (arity_of ds p) (cases_of ds p)
-all_more ds A B C q f g done here p l b o =
-    elim (below_or p q l) [
-      | inl less ↦ g.within p b (done p less b o)
-      | inr e ↦ subst (λ z. IsMember b (pairs_of C z)) (sym e)
-          (here b (subst (λ z. OneOf (CaseGives (in_table B) (arity_of ds z) b) (cases_of ds z)) e
-          (lift (cases_of ds p) o)))
-    ]
-  where
-    lift : (cs : List SymbolicHeap) → OneOf (CaseGives (in_table A) (arity_of ds p) b) cs
-        → OneOf (CaseGives (in_table B) (arity_of ds p) b) cs
-    lift [] o = o
-    lift (c ∷ cs) (inl y) = inl (gives_within (in_table A) (in_table B) (λ q d m. f.within q d m) (arity_of ds p) b c y)
-    lift (c ∷ cs) (inr z) = inr (lift cs z)
-
 pub arity_read : (ds : List Definition) (p : ℕ) (d : Definition) → p < length ds → (get_or ds p d).arity ≡ arity_of ds p
 arity_read [] p d l = absurd (omega arith)
 arity_read (x ∷ ds) zero d l = refl
 arity_read (x ∷ ds) (suc p) d l = arity_read ds p d (omega arith)
-
--- ---- the last is taken off
-
-module _ (old new : List BasePair) (k : BasePair) (e : old ≡ new ++ (k ∷ [])) where
-  pub popped_member : IsMember k old
-  popped_member = subst (IsMember k) (sym e) (in_right k new (k ∷ []) (inl refl))
-
-  pub popped_rest : (b : BasePair) → IsMember b new → IsMember b old
-  popped_rest b m = subst (IsMember b) (sym e) (in_left b new (k ∷ []) m)
-
-  pub popped_done : (B C : Table) (p : ℕ) → IsGrown B C → IsMember k (pairs_of C p) → (b : BasePair)
-      → IsMember b old ⊎ IsMember b (pairs_of B p) → IsMember b new ⊎ IsMember b (pairs_of C p)
-  popped_done B C p g t b (inr m) = inr (g.within p b m)
-  popped_done B C p g t b (inl m) =
-      elim (in_append b new (k ∷ []) (subst (IsMember b) e m)) [
-        | inl i ↦ inl i
-        | inr j ↦ elim j [ inl s ↦ inr (subst (λ z. IsMember z (pairs_of C p)) s t) | inr no' ↦ absurd no' ]
-      ]
-
-pub popped_none : (xs : List BasePair) → (0 < length xs → false ≡ true) → xs ≡ []
-popped_none [] f = refl
-popped_none (x ∷ xs) f = absurd (both_ways false refl (f (omega arith)))

@@ -35,9 +35,10 @@ pub record IsPartOf (ds : List Definition) (most : ℕ) (table : Table) : Type 0
   pub few : total table ≤ most
   pub long : length table ≡ length ds
 
--- the new table has what the old one has, and is the old one if it has no more
+-- the new table has what the old one has, in its order and before all else, and is the old one if it has no more
 pub record IsGrown (old new : Table) : Type 0 where
   pub within : (p : ℕ) (b : BasePair) → IsMember b (pairs_of old p) → IsMember b (pairs_of new p)
+  pub extends : (p : ℕ) → (rest : List BasePair) × (pairs_of new p ≡ pairs_of old p ++ rest)
   pub more : total old ≤ total new
   pub same : total new ≡ total old → new ≡ old
 

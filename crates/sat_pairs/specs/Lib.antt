@@ -3,3 +3,5 @@ pub mod Growth
 pub mod Parts
 pub mod CaseStates
 pub mod Joins
+pub mod Stages
+pub mod Turns

@@ -1,57 +1,60 @@
-// Which definitions are to be done, and which use which.
+// Which cases are to be done, and which predicates they use.
 
+use crate::turns::Turn;
 use cyc_basics::memory::OutOfMemory;
-use heap_formula::{Heap, Spatial};
-use pred_defs::Defs;
+use heap_formula::Spatial;
 use std::alloc::Global;
 use std::collections::VecDeque;
 
-/// Predicates that wait for their turn, each once, and for each predicate those with a case that uses it.
+/// Cases that wait for their turn, each once, and for each predicate the cases that use it.
 #[derive(Drop)]
 pub struct Agenda {
-    waiting: VecDeque<u16>,
+    waiting: VecDeque<usize>,
     waits: Vec<bool>,
-    users: Vec<Vec<u16>>,
+    users: Vec<Vec<usize>>,
 }
 
 impl Agenda {
-    /// All predicates, the last first.
-    pub fn new(alloc: Global, defs: &Defs) -> Result<Agenda, OutOfMemory> {
+    /// All cases, the last first; `preds` is how many predicates there are.
+    pub fn new(alloc: Global, preds: usize, turns: &[Turn]) -> Result<Agenda, OutOfMemory> {
         let mut agenda = Agenda {
             waiting: VecDeque::new(alloc),
             waits: Vec::new(alloc),
             users: Vec::new(alloc),
         };
-        agenda.fill(alloc, defs)?;
+        for _pred in 0..preds {
+            agenda.users.push(Vec::new(alloc))?;
+        }
+        agenda.fill(turns)?;
         Ok(agenda)
     }
 
-    /// Each predicate waits, behind those that follow it; and who uses it is noted.
-    fn fill(&mut self, alloc: Global, defs: &Defs) -> Result<(), OutOfMemory> {
-        for pred in 0..defs.as_slice().len() {
-            self.waiting.push_front(pred as u16)?;
+    /// Each case waits, behind those that follow it; and whom it uses is noted.
+    fn fill(&mut self, turns: &[Turn]) -> Result<(), OutOfMemory> {
+        for (place, turn) in turns.iter().enumerate() {
+            self.waiting.push_front(place)?;
             self.waits.push(true)?;
-            self.users.push(Vec::new(alloc))?;
+            note_case(&mut self.users, place, turn)?;
         }
-        note_cases(&mut self.users, defs)
+        Ok(())
     }
 
-    /// The predicate that has waited longest.
-    pub fn next(&mut self) -> Option<u16> {
-        let pred = self.waiting.pop_front()?;
-        if let Some(waits) = self.waits.get_mut(pred as usize) {
+    /// The case that has waited longest.
+    pub fn next(&mut self) -> Option<usize> {
+        let place = self.waiting.pop_front()?;
+        if let Some(waits) = self.waits.get_mut(place) {
             *waits = false;
         }
-        Some(pred)
+        Some(place)
     }
 
-    /// The users of this predicate wait from now on, if they do not yet.
+    /// The cases that use this predicate wait from now on, if they do not yet.
     pub fn add_users(&mut self, pred: u16) -> Result<(), OutOfMemory> {
         let Some(users) = self.users.get(pred as usize) else {
             return Ok(());
         };
         for user in users {
-            if let Some(waits) = self.waits.get_mut(*user as usize) {
+            if let Some(waits) = self.waits.get_mut(*user) {
                 if !*waits {
                     *waits = true;
                     self.waiting.push_back(*user)?;
@@ -62,26 +65,16 @@ impl Agenda {
     }
 }
 
-/// Notes that a predicate uses those in a case, each once in a row.
-fn note_case(users: &mut Vec<Vec<u16>>, pred: u16, case: &Heap) -> Result<(), OutOfMemory> {
-    for atom in case.spatial() {
-        let Spatial::Pred(used, _) = atom else {
+/// Notes that a case uses the predicates of its atoms, each once.
+fn note_case(users: &mut Vec<Vec<usize>>, place: usize, turn: &Turn) -> Result<(), OutOfMemory> {
+    for stage in &turn.stages {
+        let Spatial::Pred(used, _) = stage.atom else {
             continue;
         };
-        if let Some(list) = users.get_mut(*used as usize) {
-            if list.last() != Some(&pred) {
-                list.push(pred)?;
+        if let Some(list) = users.get_mut(used as usize) {
+            if list.last() != Some(&place) {
+                list.push(place)?;
             }
-        }
-    }
-    Ok(())
-}
-
-/// Notes which predicates each predicate uses in its cases.
-fn note_cases(users: &mut Vec<Vec<u16>>, defs: &Defs) -> Result<(), OutOfMemory> {
-    for pred in 0..defs.as_slice().len() {
-        for case in defs.cases(pred as u16) {
-            note_case(users, pred as u16, case)?;
         }
     }
     Ok(())

@@ -20,8 +20,8 @@ ghost use Rattle.sat_pairs.specs.CaseStates.{GivesBy, GivesTo, Passes, PassesFro
 use crate::numbers::{
     kept_numbers, number_of, numbers_below, place_of, places_of, push_pure, push_spoken,
 };
-use crate::orders::{in_join_order, in_order};
-use crate::parts::{Part, have_some, pairs_of_part, place_of_none, whole_parts};
+use crate::orders::in_join_order;
+use crate::parts::{Part, have_some, pairs_of_part, whole_parts};
 use crate::tables::Table;
 use cyc_basics::memory::OutOfMemory;
 use heap_formula::{Heap, Pure, Spatial};
@@ -103,7 +103,12 @@ fn start_at(
 }
 
 /// What the pure atoms say of the terms that the parts speak of and of the parameters, unless they exclude one another.
-fn start(alloc: Global, k: u32, parts: &[Part], pure: &[Pure]) -> Result<Option<Known>, OutOfMemory>
+pub fn start(
+    alloc: Global,
+    k: u32,
+    parts: &[Part],
+    pure: &[Pure],
+) -> Result<Option<Known>, OutOfMemory>
     ensures { IfOk result (Starts k (atoms_of parts.now) pure.now) }
 {
     let mut numbers = kept_numbers(alloc, k, parts)?;
@@ -124,7 +129,7 @@ pub fn cell_pairs(alloc: Global) -> Result<Vec<Known>, OutOfMemory>
 }
 
 /// The places of nil and of the terms that an atom's base pair speaks of.
-fn places_for(alloc: Global, numbers: &[u64], atom: &Spatial) -> Result<Vec<usize>, OutOfMemory>
+pub fn places_for(alloc: Global, numbers: &[u64], atom: &Spatial) -> Result<Vec<usize>, OutOfMemory>
     ensures { IfOk result (λ v. v.items ≡ places_in numbers.now (spoken atom.now)) }
 {
     match atom {
@@ -245,27 +250,6 @@ fn given_in_order(
     };
     let states = first_states(alloc, first, most)?;
     fold(alloc, table, cell, k, parts, states, most)
-}
-
-/// The base pairs that parts give, with pure atoms, for a predicate with k parameters; the part at a place is taken
-/// first, so that the states may be too much where those in the order of a join are not.
-pub fn given_from(
-    alloc: Global,
-    table: &Table,
-    cell: &[Known],
-    k: u32,
-    parts: Vec<Part>,
-    place: usize,
-    pure: &[Pure],
-    most: usize,
-) -> Result<IndexSet<Known>, StatesFault>
-    requires cell { cell.now ≡ cell_pair_alone }
-    ensures { IfOk result (λ out. (d : BasePair)
-        → IsMember d out.keys ↔ PartsGive table.now cell.now k pure.now d parts.items) }
-{
-    let first = place_of_none(table, cell, &parts, place);
-    let ordered = in_order(alloc, k, parts, first)?;
-    given_in_order(alloc, table, cell, k, &ordered, pure, most)
 }
 
 /// The base pairs that whole parts give, each with some base pair, in the order of a join.

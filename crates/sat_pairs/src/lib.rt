@@ -7,6 +7,7 @@ mod numbers;
 mod orders;
 mod parts;
 mod rounds;
+mod stages;
 mod tables;
 mod turns;
 

@@ -146,15 +146,6 @@ fn cheapest(k: u32, taken: &[Part], left: &[Part]) -> usize
     best
 }
 
-/// The part at a place, or the last, taken out.
-fn take_out(parts: &mut Vec<Part>, place: usize) -> Part
-    requires { 0 < length parts.old.items }
-    ensures { IsTakenOut parts.old.items parts.new.items result }
-{
-    let at = place.min(parts.len() - 1);
-    parts.remove(at)
-}
-
 /// Some parts, and then others: always one that costs least.
 fn joined(k: u32, taken: Vec<Part>, others: Vec<Part>) -> Result<Vec<Part>, OutOfMemory>
     ensures { IfOk result (λ v. IsJoined k taken.items others.items v.items) }
@@ -176,32 +167,4 @@ pub fn in_join_order(alloc: Global, k: u32, parts: Vec<Part>) -> Result<Vec<Part
     ensures all { IfOk result (λ v. Reorders v.items parts.items) }
 {
     joined(k, Vec::new(alloc), parts)
-}
-
-/// The part at a place, or the last, alone; it is taken out of the parts.
-fn first_taken(alloc: Global, parts: &mut Vec<Part>, place: usize) -> Result<Vec<Part>, OutOfMemory>
-    requires { 0 < length parts.old.items }
-    ensures { IfOk result (λ v. IsFirstTaken parts.old.items parts.new.items v.items) }
-{
-    let mut taken = Vec::new(alloc);
-    let Part { atom, share } = take_out(parts, place);
-    taken.push(Part { atom, share })?;
-    Ok(taken)
-}
-
-/// The parts in another order: first the one at a place, and then as in a join.
-pub fn in_order(
-    alloc: Global,
-    k: u32,
-    parts: Vec<Part>,
-    first: usize,
-) -> Result<Vec<Part>, OutOfMemory>
-    ensures { IfOk result (λ v. Reorders v.items parts.items) }
-{
-    if parts.is_empty() {
-        return Ok(parts);
-    }
-    let mut left = parts;
-    let taken = first_taken(alloc, &mut left, first)?;
-    joined(k, taken, left)
 }

@@ -1,10 +1,10 @@
 // Atoms of a symbolic heap with the base pairs that they may take.
 ghost use Rattle.std.specs.Prelude.{◌≡◌, ◌↔◌, IfOk, IsTrue};
 ghost use Rattle.pair_family.specs.Tables.{pairs_of};
-ghost use Rattle.sat_pairs.specs.Parts.{atoms_of, AreWhole, HasSome, cut, share_of, part_pairs};
+ghost use Rattle.sat_pairs.specs.declared.parts.Share.TheVariants.{All as whole_share};
+ghost use Rattle.sat_pairs.specs.Parts.{AreWhole, HasSome, atom_pairs, cut, share_of, part_pairs};
 
 use crate::tables::Table;
-use crate::turns::News;
 use cyc_basics::memory::OutOfMemory;
 use heap_formula::Spatial;
 use pair_family::states::Known;
@@ -44,6 +44,16 @@ fn shared(pairs: &[Known], share: Share) -> &[Known]
     }
 }
 
+/// The base pairs of an atom; a cell's is `cell`.
+pub fn pairs_of_atom<'a>(table: &'a Table, cell: &'a [Known], atom: &Spatial) -> &'a [Known]
+    ensures { result.now ≡ atom_pairs table.now cell.now atom.now whole_share }
+{
+    match *atom {
+        Spatial::Cell(_, _) => cell,
+        Spatial::Pred(q, _) => table.pairs(q),
+    }
+}
+
 /// The base pairs that a part may take; a cell's is `cell`.
 pub fn pairs_of_part<'a>(table: &'a Table, cell: &'a [Known], part: &Part) -> &'a [Known]
     ensures { result.now ≡ part_pairs table.now cell.now part.now }
@@ -68,42 +78,6 @@ pub fn whole_parts(alloc: Global, atoms: &[Spatial]) -> Result<Vec<Part>, OutOfM
     Ok(parts)
 }
 
-/// The atoms with those base pairs that are new at a place, and old before it.
-pub fn new_parts(
-    alloc: Global,
-    atoms: &[Spatial],
-    news: &News,
-    new_at: usize,
-) -> Result<Vec<Part>, OutOfMemory>
-    ensures { IfOk result (λ v. atoms_of v.items ≡ atoms.now) }
-{
-    let mut parts = Vec::new(alloc);
-    for (place, atom) in atoms.iter().enumerate() {
-        parts.push(Part {
-            atom: *atom,
-            share: news.share(place, new_at),
-        })?;
-    }
-    Ok(parts)
-}
-
-/// How many base pairs each atom has.
-pub fn pair_counts(
-    alloc: Global,
-    table: &Table,
-    atoms: &[Spatial],
-) -> Result<Vec<usize>, OutOfMemory> {
-    let mut counts = Vec::new(alloc);
-    for atom in atoms {
-        let count = match atom {
-            Spatial::Cell(_, _) => 1,
-            Spatial::Pred(q, _) => table.pairs(*q).len(),
-        };
-        counts.push(count)?;
-    }
-    Ok(counts)
-}
-
 /// Whether each part has some base pair.
 pub fn have_some(table: &Table, cell: &[Known], parts: &[Part]) -> bool
     ensures { IsTrue result ↔ HasSome table.now cell.now parts.now }
@@ -114,14 +88,4 @@ pub fn have_some(table: &Table, cell: &[Known], parts: &[Part]) -> bool
         }
     }
     true
-}
-
-/// The place of a part without base pairs; the given place where each has some.
-pub fn place_of_none(table: &Table, cell: &[Known], parts: &[Part], place: usize) -> usize {
-    for (other, part) in parts.iter().enumerate() {
-        if pairs_of_part(table, cell, part).is_empty() {
-            return other;
-        }
-    }
-    place
 }

@@ -3,6 +3,7 @@ ghost use Rattle.std.specs.Prelude.{◌≡◌, ◌<◌, ◌+◌, MatchOption};
 
 use crate::states::digests::digest_of;
 use crate::states::pairs::PairSet;
+use std::alloc::AllocError;
 use std::hash::{Hash, Hasher};
 use std::marker::Model;
 
@@ -53,6 +54,19 @@ impl Hash for Known {
         self.same.digest().hash(state);
         self.differ.digest().hash(state);
         digest_of(&self.cells).hash(state);
+    }
+}
+
+impl Clone for Known {
+    ghost use Rattle.std.specs.Prelude.{◌≡◌};
+
+    ghost is_clone = { λ known copy. copy ≡ known };
+
+    fn clone(&self) -> Result<Known, AllocError> {
+        let same = self.same.clone()?;
+        let differ = self.differ.clone()?;
+        let cells = self.cells.clone()?;
+        Ok(Known::of_sets(same, differ, cells))
     }
 }
 

@@ -11,4 +11,4 @@ mod states;
 
 pub use combining::combine;
 pub use known::Known;
-pub use states::{AtomStep, StatesFault, add, first_states, states_after};
+pub use states::{AtomStep, StatesFault, add, first_states, grow_states, states_after};

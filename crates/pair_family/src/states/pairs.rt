@@ -58,6 +58,22 @@ impl PartialEq for PairSet {
     }
 }
 
+impl Clone for PairSet {
+    ghost use Rattle.std.specs.Prelude.{◌≡◌};
+
+    ghost is_clone = { λ set copy. copy ≡ set };
+
+    fn clone(&self) -> Result<PairSet, AllocError> {
+        match &self.form {
+            PairForm::Masked(mask) => Ok(PairSet::from_mask(*mask)),
+            PairForm::Listed(list) => {
+                let copy = list.clone()?;
+                Ok(PairSet::from_list(copy))
+            }
+        }
+    }
+}
+
 impl PairSet {
     /// The pairs of a mask.
     pub fn from_mask(mask: u64) -> PairSet

@@ -4,7 +4,7 @@ ghost use Rattle.cyc_basics.specs.Words.{IsMember};
 ghost use Rattle.pair_family.specs.BasePairs.{BasePair};
 ghost use Rattle.pair_family.specs.LargeCases.{sizes, HasMore};
 ghost use Rattle.pair_family.specs.Tables.{IsDistinct};
-ghost use Rattle.pair_family.specs.Labels.{Gives, Grows, HasRoom, IsAdded, GivesSome, GivesFrom};
+ghost use Rattle.pair_family.specs.Labels.{Extends, Gives, Grows, HasRoom, IsAdded, GivesSome, GivesFrom};
 
 use crate::states::combining::{Lists, combine_in};
 use crate::states::known::Known;
@@ -62,6 +62,7 @@ pub fn add(set: &mut IndexSet<Known>, known: Known) -> Result<bool, AllocError>
 fn grow(set: &mut IndexSet<Known>, room: usize, known: Known) -> Result<usize, StatesFault>
     requires { IsDistinct set.old.keys }
     ensures room { IfOk result (HasRoom (room + sizes set.old.keys) set.new.keys) }
+    ensures extends { IfOk result (λ _. Extends set.old.keys set.new.keys) }
     ensures grown { IfOk result (λ _. Grows set.old.keys set.new.keys (λ d. d ≡ known)) }
     ensures many { result ≡ Err StatesFault.TooManyStates
         → HasMore (room + sizes set.old.keys) (λ d. IsMember d set.old.keys ⊎ (d ≡ known)) }
@@ -78,6 +79,7 @@ fn grow(set: &mut IndexSet<Known>, room: usize, known: Known) -> Result<usize, S
 }
 
 /// Adds what one more base pair gives.
+#[tactic(auto, using(crate::proofs::Growing::extends_self))]
 fn grow_by(
     alloc: Global,
     lists: &mut Lists,
@@ -89,6 +91,7 @@ fn grow_by(
 ) -> Result<usize, StatesFault>
     requires { IsDistinct set.old.keys }
     ensures room { IfOk result (HasRoom (room + sizes set.old.keys) set.new.keys) }
+    ensures extends { IfOk result (λ _. Extends set.old.keys set.new.keys) }
     ensures grown { IfOk result (λ _. Grows set.old.keys set.new.keys
         (λ d. Gives step.now.numbers.now state.now step.now.places.now step.now.kept.now d pair.now)) }
     ensures many { result ≡ Err StatesFault.TooManyStates → HasMore (room + sizes set.old.keys)
@@ -110,6 +113,7 @@ fn grow_by(
 }
 
 /// Adds what each of the base pairs gives with a state.
+#[tactic(auto, using(crate::proofs::Growing::extends_self))]
 fn grow_by_each(
     alloc: Global,
     lists: &mut Lists,
@@ -121,6 +125,7 @@ fn grow_by_each(
 ) -> Result<usize, StatesFault>
     requires { IsDistinct set.old.keys }
     ensures room { IfOk result (HasRoom (room + sizes set.old.keys) set.new.keys) }
+    ensures extends { IfOk result (λ _. Extends set.old.keys set.new.keys) }
     ensures grown { IfOk result (λ _. Grows set.old.keys set.new.keys
         (GivesSome step.now.numbers.now state.now step.now.places.now step.now.kept.now pairs.now)) }
     ensures many { result ≡ Err StatesFault.TooManyStates → HasMore (room + sizes set.old.keys)
@@ -135,6 +140,7 @@ fn grow_by_each(
 }
 
 /// Adds what each of the base pairs gives with each of the states.
+#[tactic(auto, using(crate::proofs::Growing::extends_self))]
 fn grow_by_all(
     alloc: Global,
     lists: &mut Lists,
@@ -146,6 +152,7 @@ fn grow_by_all(
 ) -> Result<usize, StatesFault>
     requires { IsDistinct set.old.keys }
     ensures room { IfOk result (HasRoom (room + sizes set.old.keys) set.new.keys) }
+    ensures extends { IfOk result (λ _. Extends set.old.keys set.new.keys) }
     ensures grown { IfOk result (λ _. Grows set.old.keys set.new.keys
         (GivesFrom step.now.numbers.now states.now step.now.places.now step.now.kept.now pairs.now)) }
     ensures many { result ≡ Err StatesFault.TooManyStates → HasMore (room + sizes set.old.keys)
@@ -157,6 +164,31 @@ fn grow_by_all(
         left = grow_by_each(alloc, lists, set, left, step, state, pairs)?;
     }
     Ok(left)
+}
+
+/// Adds what each of the base pairs gives with each of the states, each unless it is there. The room that is left for
+/// base pairs is given, and comes back.
+pub fn grow_states(
+    alloc: Global,
+    step: &AtomStep<'_>,
+    set: &mut IndexSet<Known>,
+    room: usize,
+    states: &[Known],
+    pairs: &[Known],
+) -> Result<usize, StatesFault>
+    requires { IsDistinct set.old.keys }
+    ensures room { IfOk result (HasRoom (room + sizes set.old.keys) set.new.keys) }
+    ensures extends { IfOk result (λ _. Extends set.old.keys set.new.keys) }
+    ensures grown { IfOk result (λ _. Grows set.old.keys set.new.keys
+        (GivesFrom step.now.numbers.now states.now step.now.places.now step.now.kept.now pairs.now)) }
+    ensures many { result ≡ Err StatesFault.TooManyStates → HasMore (room + sizes set.old.keys)
+        (λ d. IsMember d set.old.keys
+        ⊎ GivesFrom step.now.numbers.now states.now step.now.places.now step.now.kept.now pairs.now d) }
+{
+    let mut lists = Lists::new(alloc);
+    let left = grow_by_all(alloc, &mut lists, set, room, step, states, pairs);
+    drop(lists);
+    left
 }
 
 /// What the states give with one more atom, each once, unless that is more in size than `most`.

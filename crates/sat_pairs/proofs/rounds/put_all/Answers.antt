@@ -1,33 +1,42 @@
-use Rattle.std.proofs.Common.{◌≡◌, inl, inr, ◌++◌, ◌∷◌, [], subst}
+use Rattle.std.proofs.Common.{◌≡◌, ◌+◌, inl, inr, ◌∷◌, [], drop, sym, ◌∙◌, subst, arith}
+use Rattle.std.proofs.lemmas.Grind.{common_steps}
+use Rattle.std.proofs.lemmas.List.{drop_more}
+use Rattle.std.proofs.Math.ListN.{drop_of_length-le}
+use Rattle.pair_family.specs.Family.{InFamily}
+use Rattle.pair_family.specs.Tables.{pairs_of}
 use Rattle.cyc_basics.specs.Words.{IsMember}
-use Rattle.sat_pairs.proofs.Taken.{grown_then, popped_member, popped_rest, popped_done, popped_none}
+use Rattle.sat_pairs.proofs.Taken.{at_member, grown_then}
 use Rattle.sat_pairs.proofs.rounds.put_all.Goals as goal
 
 pub put-requires-clause-member : goal.put-requires-clause-member
 put-requires-clause-member c =
-    let keys : c.loop-known.given.keys ≡ c.pop.new.self.keys ++ (c.in-Some.known ∷ []) = c.in-Some.ensures.keys in
-    let there = c.loop-known.invariant.rest c.in-Some.known
-    (popped_member c.loop-known.given.keys c.pop.new.self.keys c.in-Some.known keys) in
-    c.requires.members c.in-Some.known there
+    let m = at_member c.args.found.now c.loop-known.known-index c.known-item.result c.loop-known-test.true
+    (sym c.known-item.is) in
+    subst (InFamily c.args.defs.now.list c.args.pred) (sym c.in_ok-copy.ensures.cases)
+    (c.requires.members c.known-item.result m)
 
 pub loop-known-preserved : goal.loop-known-preserved
 loop-known-preserved c =
-    let keys : c.loop-known.given.keys ≡ c.pop.new.self.keys ++ (c.in-Some.known ∷ []) = c.in-Some.ensures.keys in
+    let rest = drop (c.loop-known.known-index + 1) c.args.found.now in
+    let here : drop c.loop-known.known-index c.args.found.now ≡ c.known-item.result ∷ rest = grind
+    (arith, common_steps, drop_more c.args.found.now c.loop-known.known-index c.known-item.result) in
     record {
       part = c.in_ok-now.ensures.part.0;
       count = c.in_ok-now.ensures.part.1;
       grown = grown_then c.args.table.now c.loop-known.table c.put.new.table c.loop-known.invariant.grown
           c.in_ok-now.ensures.grown;
-      rest = λ b m.
-          c.loop-known.invariant.rest b
-          (popped_rest c.loop-known.given.keys c.pop.new.self.keys c.in-Some.known keys b m);
-      done = λ b m.
-          popped_done c.loop-known.given.keys c.pop.new.self.keys c.in-Some.known keys c.loop-known.table
-          c.put.new.table c.args.pred c.in_ok-now.ensures.grown c.in_ok-now.ensures.taken b
-          (c.loop-known.invariant.done b m);
+      done = λ b m. elim (c.loop-known.invariant.done b m) [
+        | inl i ↦ elim (subst (IsMember b) here i) [
+          | inl s ↦ inr (subst (λ z. IsMember z (pairs_of c.put.new.table c.args.pred)) (c.in_ok-copy.ensures.cases ∙ s)
+              c.in_ok-now.ensures.taken)
+          | inr r ↦ inl r
+        ]
+        | inr t ↦ inr (c.in_ok-now.ensures.grown.within c.args.pred b t)
+      ];
     }
 
 pub returns-clause-taken : goal.returns-clause-taken
 returns-clause-taken c =
-    let none : c.loop-known.given.keys ≡ [] = popped_none c.loop-known.given.keys c.in_default.ensures.found.1 in
-    λ b g. elim (c.loop-known.invariant.done b g) [ inl i ↦ absurd (subst (IsMember b) none i) | inr m ↦ m ]
+    let none : drop c.loop-known.known-index c.args.found.now
+    ≡ [] = grind (arith, common_steps, drop_of_length-le c.args.found.now) in
+    λ b m. elim (c.loop-known.invariant.done b m) [ inl i ↦ absurd (subst (IsMember b) none i) | inr t ↦ t ]

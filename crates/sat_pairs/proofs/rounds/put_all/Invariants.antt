@@ -1,4 +1,4 @@
-use Rattle.std.proofs.Common.{◌≡◌, ◌⊎◌, length}
+use Rattle.std.proofs.Common.{◌≡◌, ◌⊎◌, drop}
 use Rattle.pair_family.specs.BasePairs.{BasePair}
 use Rattle.pair_family.specs.Tables.{pairs_of}
 use Rattle.cyc_basics.specs.Words.{IsMember}
@@ -10,9 +10,6 @@ invariant-loop-known l = record {
   part : IsPartOf l.defs.list l.limits.pairs l.table;
   count : l.now ≡ total l.table;
   grown : IsGrown l.fn.table l.table;
-  rest : (b : BasePair) → IsMember b l.given.keys → IsMember b l.fn.given.keys;
-  done : (b : BasePair) → IsMember b l.fn.given.keys → IsMember b l.given.keys ⊎ IsMember b (pairs_of l.table l.pred);
+  done : (b : BasePair) → IsMember b l.found → IsMember b (drop l.known-index l.found)
+      ⊎ IsMember b (pairs_of l.table l.pred);
 }
-
-abbrev pub decreases-loop-known : goal.decreases-loop-known
-decreases-loop-known l = length l.given.keys

@@ -1,4 +1,4 @@
-use Rattle.pair_family.proofs.Growing.{grows_added}
+use Rattle.pair_family.proofs.Growing.{extends_added, grows_added}
 use Rattle.pair_family.proofs.Sized.{many_then, room_more, room_same}
 use Rattle.pair_family.proofs.states.states.grow.Goals as goal
 
@@ -20,3 +20,11 @@ returns-in-Some-clause-room c =
 pub returns-in-Some-clause-grown : goal.returns-in-Some-clause-grown
 returns-in-Some-clause-grown c =
     grows_added c.args.set.now.keys c.add.new.set.keys c.args.known c.in_ok-is_new.is_new c.in_ok-is_new.ensures
+
+pub returns-then-not-is_new-clause-extends : goal.returns-then-not-is_new-clause-extends
+returns-then-not-is_new-clause-extends c =
+    extends_added c.args.set.now.keys c.add.new.set.keys c.args.known c.in_ok-is_new.is_new c.in_ok-is_new.ensures
+
+pub returns-in-Some-clause-extends : goal.returns-in-Some-clause-extends
+returns-in-Some-clause-extends c =
+    extends_added c.args.set.now.keys c.add.new.set.keys c.args.known c.in_ok-is_new.is_new c.in_ok-is_new.ensures

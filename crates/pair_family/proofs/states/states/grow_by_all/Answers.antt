@@ -9,7 +9,7 @@ use Rattle.pair_family.specs.LargeCases.{sizes, HasMore}
 use Rattle.cyc_basics.specs.Words.{IsMember}
 use Rattle.pair_family.specs.declared.states.states.StatesFault.TheVariants.{TooManyStates}
 use Rattle.pair_family.specs.Labels.{Gives}
-use Rattle.pair_family.proofs.Growing.{grows_step, grows_end}
+use Rattle.pair_family.proofs.Growing.{extends_then, grows_step, grows_end}
 use Rattle.pair_family.proofs.Sized.{many_step, room_then}
 use Rattle.pair_family.proofs.states.states.grow_by_all.Goals as goal
 
@@ -27,6 +27,8 @@ loop-state-preserved c =
       room = room_then (c.args.room + sizes c.args.set.now.keys)
           c.loop-state.set.keys c.grow_by_each.new.set.keys c.loop-state.left c.in_ok-left.left
           c.loop-state.invariant.room c.in_ok-left.ensures.room;
+      extends = extends_then c.args.set.now.keys c.loop-state.set.keys c.grow_by_each.new.set.keys
+          c.loop-state.invariant.extends c.in_ok-left.ensures.extends;
       grown = grows_step c.loop-state.set.keys c.grow_by_each.new.set.keys G c.state-item.result
           (drop (c.loop-state.state-index + 1) c.args.states.now)
           (λ d. IsMember d c.args.set.now.keys ⊎ OneOf (G d) c.args.states.now) inv c.in_ok-left.ensures.grown;

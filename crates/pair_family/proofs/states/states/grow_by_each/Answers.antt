@@ -9,7 +9,7 @@ use Rattle.pair_family.specs.LargeCases.{sizes, HasMore}
 use Rattle.cyc_basics.specs.Words.{IsMember}
 use Rattle.pair_family.specs.declared.states.states.StatesFault.TheVariants.{TooManyStates}
 use Rattle.pair_family.specs.Labels.{Gives}
-use Rattle.pair_family.proofs.Growing.{grows_step, grows_end}
+use Rattle.pair_family.proofs.Growing.{extends_then, grows_step, grows_end}
 use Rattle.pair_family.proofs.Sized.{many_step, room_then}
 use Rattle.pair_family.proofs.states.states.grow_by_each.Goals as goal
 
@@ -28,6 +28,8 @@ loop-pair-preserved c =
       room = room_then (c.args.room + sizes c.args.set.now.keys)
           c.loop-pair.set.keys c.grow_by.new.set.keys c.loop-pair.left c.in_ok-left.left c.loop-pair.invariant.room
           c.in_ok-left.ensures.room;
+      extends = extends_then c.args.set.now.keys c.loop-pair.set.keys c.grow_by.new.set.keys
+          c.loop-pair.invariant.extends c.in_ok-left.ensures.extends;
       grown = grows_step c.loop-pair.set.keys c.grow_by.new.set.keys G c.pair-item.result
           (drop (c.loop-pair.pair-index + 1) c.args.pairs.now)
           (λ d. IsMember d c.args.set.now.keys ⊎ OneOf (G d) c.args.pairs.now) inv c.in_ok-left.ensures.grown;
