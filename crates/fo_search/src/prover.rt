@@ -10,10 +10,10 @@ use crate::logic::FirstOrderSearch;
 use cyc_basics::limits::MOST_NODES;
 use cyc_basics::memory::OutOfMemory;
 use derivations::Derivation;
+use derivations::found::{Proved, search_proof};
 use fo_file::values::FoProblem;
 use fo_formula::{FoFile, FoNodes, FoReason, FoSequent, FoTheory};
 use fo_logic::FirstOrder;
-use derivations::found::{Proved, search_proof};
 use std::alloc::Global;
 
 /// What comes of a search: a proof; nothing, within the depth; or that a limit was met, on partial derivations of one

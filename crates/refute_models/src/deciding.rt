@@ -238,11 +238,7 @@ impl<'a> Decider<'a> {
     }
 
     /// Whether the formula holds of these cells, or of any: with the fewest pairs of those that are found.
-    fn decide_of(
-        &mut self,
-        heap: &Heap,
-        wanted: Option<CellSet>,
-    ) -> Result<Decision, OutOfMemory> {
+    fn decide_of(&mut self, heap: &Heap, wanted: Option<CellSet>) -> Result<Decision, OutOfMemory> {
         let model = self.model;
         let asked = Asked {
             model,

@@ -11,11 +11,10 @@ use crate::by_rules::ByRules;
 use crate::reasons::Reason;
 use crate::rules::RuleLogic;
 use cyc_basics::memory::OutOfMemory;
-use derivations::found::effect_of;
+use derivations::found::{Proved, effect_of, search_proof};
 use derivations::search::{DERIVATION_LIMIT, Offers};
 use derivations::tableaux::{MadeNode, OpenGoal, Rules};
 use derivations::{Derivation, Effect, Logic, Strategy};
-use derivations::found::{Proved, search_proof};
 use std::alloc::Global;
 use std::collections::VecDeque;
 

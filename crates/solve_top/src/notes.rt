@@ -255,9 +255,7 @@ pub fn notes_on_model(alloc: Global, plain: &[u8], model: &Model) -> Result<Note
     let names = names_in(alloc, plain)?;
     let mut notes = Notes::new(alloc);
     add_values(alloc, &mut notes, &names, &model.stack)?;
-    notes.line(&[Part::Text(
-        "the left side holds of it, and what is asked for of no part of it",
-    )])?;
+    notes.line(&[Part::Text("the left side holds of it, and what is asked for of no part of it")])?;
     Ok(notes)
 }
 

@@ -68,9 +68,7 @@ fn answer_to_nothing(alloc: Global, problem: &Problem) -> Result<Answer, OutOfMe
     ensures ending { IfOk result (λ a. is_answer a.status ≡ true) }
 {
     let mut notes = Notes::new(alloc);
-    notes.line(&[Part::Text(
-        "no frame was found, and no model that shows that there is none",
-    )])?;
+    notes.line(&[Part::Text("no frame was found, and no model that shows that there is none")])?;
     let text = certified(alloc, "unknown\n", &notes, &[])?;
     Ok(Answer {
         status: Status::NotFound,
