@@ -124,9 +124,10 @@ module _ (most : Limits) (bounded : AreLimits most) (ds : List Definition) (line
         finds_gives (Gives X ps) (no_answer X ps) (slice_get b.spatial k) NoSuchAtom _ (λ y at_k e.
         let w = same (Entail a (b ∷ [])) is in
         let left = (small most ds a w.heaps.0).spatials in
-        let right = (small most ds b w.heaps.1.0).spatials in
-        (short_at a.spatial i x at_i (omega (arith, bounded.spatial)),
-        short_at b.spatial k y at_k (omega (arith, bounded.spatial))))))
+        let right = (small most ds b w.heaps.1.0).spatials in (
+          short_at a.spatial i x at_i (omega (arith, bounded.spatial)),
+          short_at b.spatial k y at_k (omega (arith, bounded.spatial)),
+        ))))
     rule_short (UnfoldRight k c) =
         let X = IsShortNumber k × IsShortNumber c in
         single_gives (Gives X ps) (no_answer X ps) j _ (λ a b is.
