@@ -67,19 +67,38 @@ FOUND = [
     ("true : ls(x, y) * y -> (z)", "true : x -> (w')", ["x = y : emp", "ls(w', y) * y -> (z)"]),
 ]
 
-NONE = [
+# questions without a frame: some heap of the antecedent has no part that is what is asked for
+FAILS = [
+    # the list, segment or tree may be empty
     ("true : list(x)", "true : x -> (y')"),
     ("true : ls(x, y)", "true : x -> (z')"),
+    ("true : emp", "true : x -> (y)"),
+    ("true : list(x) * list(y)", "true : x -> (z') * y -> (w')"),
+    ("true : ls(x, y) * ls(y, nil)", "true : y -> (z')"),
+    ("y != nil : tree(x) * tree(y)", "true : x -> (l', r')"),
+    # another address, or another field
     ("true : x -> (y)", "true : y -> (z')"),
     ("true : list(x)", "true : list(y)"),
-    ("true : tree(x)", "true : list(x)"),
-    ("true : emp", "true : x -> (y)"),
     ("true : x -> (y)", "true : x -> (z)"),
-    ("true : list(x) * list(y)", "true : x -> (z') * y -> (w')"),
+    # cells of another shape
+    ("true : tree(x)", "true : list(x)"),
     ("x != nil : list(x)", "true : x -> (y', z')"),
+    # the segment goes the other way
     ("x != y : ls(x, y)", "true : ls(y, x)"),
-    ("true : ls(x, y) * ls(y, nil)", "true : y -> (z')"),
+    # a list may lead round in a circle, so that it ends nowhere
+    ("true : ls(x, y) * y -> (x)", "true : list(x)"),
+    # one cell is asked for twice, or a second one that may not be there
     ("true : x -> (y)", "true : x -> (y) * x -> (y)"),
+    ("x != nil : list(x)", "true : x -> (y') * y' -> (z')"),
+    # the first cell of a doubly linked list has another one behind it
+    ("x != z : dll(x, w, z, v)", "true : x -> (n', v)"),
+    # a pure atom that need not hold
+    ("true : x -> (y)", "x != y : x -> (y)"),
+    ("true : list(x)", "x = nil"),
+]
+
+# questions of which nothing is said: what they have or lack is not found
+UNKNOWN = [
 ]
 
 # texts that are no question, with the first line of their answer
@@ -162,6 +181,38 @@ def check_found(solver, program, left, asked, wanted):
     return None, seconds
 
 
+def models(program, text):
+    """Returns what `model` answers."""
+    return subprocess.run([program, "model"], input=text.encode(), capture_output=True, check=False).stdout.decode().strip()
+
+
+def in_numbers(asked, names):
+    """Returns a formula of a question as a model file has it."""
+    formula = asked if ":" in asked else asked + " : emp"
+    primed = list(dict.fromkeys(re.findall(r"(\w+)'", formula)))
+    formula = re.sub(r"(\w+)'", lambda m: f"?{primed.index(m.group(1))}", formula)
+    return re.sub(r"(?<![?\w])([a-z]\w*)(?!\w*\()", lambda m: f"${names.index(m.group(1))}" if m.group(1) in names else m.group(0), formula)
+
+
+def check_fails(solver, program, left, asked):
+    """Returns what is wrong with the answer to a question that has no frame, and how long it took."""
+    lines, seconds = answer(solver, question(left, asked))
+    if lines[:1] != ["fails"]:
+        return f"answered {lines[:1]}; wanted fails", seconds
+    names = [it.split(" = ")[0] for it in re.findall(r"\w+'? = \w+", " ".join(it for it in lines if it.startswith("#")))]
+    text = "\n".join(it for it in lines if not it.startswith("#")).removeprefix("fails") + "\n"
+    if models(program, text) != "holds":
+        return "what is written is no model of the antecedent", seconds
+    before, cells, _ = re.fullmatch(r"(.*\nheap)(.*?);(\nask .*)", text, re.S).groups()
+    cells = re.findall(r"\d+ -> \([^)]*\)", cells)
+    for count in range(len(cells) + 1):
+        for part in itertools.combinations(cells, count):
+            found = models(program, f"{before} {', '.join(part)};\nask {in_numbers(asked, names)};\nend;\n")
+            if found != "fails":
+                return f"a part satisfies what is asked for, or is not read: {part}: {found}", seconds
+    return None, seconds
+
+
 def main():
     """Goes through the tables."""
     solver, program = map(os.path.abspath, sys.argv[1:3])
@@ -172,7 +223,13 @@ def main():
         if what:
             print(f"{left} |- {asked} * ?: {what}; wanted {' or '.join(wanted)} ({seconds:.2f} s)")
             wrong += 1
-    for left, asked in NONE:
+    for left, asked in FAILS:
+        what, seconds = check_fails(solver, program, left, asked)
+        slowest = max(slowest, seconds)
+        if what:
+            print(f"{left} |- {asked} * ?: {what} ({seconds:.2f} s)")
+            wrong += 1
+    for left, asked in UNKNOWN:
         lines, seconds = answer(solver, question(left, asked))
         slowest = max(slowest, seconds)
         if lines[:1] != ["unknown"]:
@@ -187,7 +244,7 @@ def main():
     if lines[:1] != ["holds antecedent unsatisfiable"]:
         print(f"an antecedent that nothing satisfies: answered {lines[:1]}")
         wrong += 1
-    count = len(FOUND) + len(NONE) + len(FAULTS) + 1
+    count = len(FOUND) + len(FAILS) + len(UNKNOWN) + len(FAULTS) + 1
     print(f"frames: {count - wrong} of {count}, the slowest in {slowest:.2f} s")
     sys.exit(wrong > 0)
 

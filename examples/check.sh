@@ -75,10 +75,15 @@ for script in "$here"/slcomp/*.smt2; do
   grep -q "^$(basename "$script")|" "$here/slcomp/answers.txt" || fail "examples/slcomp/answers.txt does not tell of $(basename "$script")"
 done
 
-# What `solve` finds of a question for a frame: the succedent of the problem that it writes.
+# What `solve` finds of a question for a frame: the succedent of the problem that it writes, or a model where there is no frame.
 while IFS='|' read -r file wanted; do
   case $file in '#'*|'') continue ;; esac
   got=$("$solver" < "$here/frames/$file")
+  if [ "$wanted" = fails ]; then
+    [ "${got%%$'\n'*}" = fails ] || fail "examples/frames/$file: solve answers '${got%%$'\n'*}', and not 'fails'"
+    [ "$(sed 1d <<< "$got" | "$program" model)" = holds ] || fail "examples/frames/$file: what solve writes is no model"
+    continue
+  fi
   goal=$(sed -n '/^goal /{p;q}' <<< "$got")
   goal=${goal#*|- }
   [ "${got%%$'\n'*}" = holds ] && [ "$goal" = "$wanted" ] || fail "examples/frames/$file: solve answers '${got%%$'\n'*}' with '$goal', and not '$wanted'"

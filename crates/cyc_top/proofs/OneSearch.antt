@@ -17,8 +17,8 @@ use Rattle.logics.specs.declared.verdict.Verdict.TheVariants.{Accepted}
 use Rattle.derivations.specs.Tableau.{replay}
 use Rattle.search_moves.specs.Settings.{theory}
 use Rattle.search_moves.specs.Trying.{Theory}
-use Rattle.proof_search.specs.Search.{calculus_of, search_system}
-use Rattle.proof_search.specs.Files.{nodes_made}
+use Rattle.proof_search.specs.Calculus.{calculus_of, search_system}
+use Rattle.proof_search.specs.Found.{nodes_made}
 use Rattle.check_answers.proofs.OneCheck.{one_some}
 use Rattle.proof_search.specs.declared.prover.Proved.{Proved}
 use Rattle.proof_search.specs.declared.prover.Proved.TheVariants.{Found, NotFound, TooManyDerivations, TooManyStates}
@@ -84,7 +84,7 @@ same_nodes p q f g same first second reasons =
     with_goal in
     let tableau = one_some first.tableau second.tableau
     (replay (calculus_of (theory q.defs q.program)) q.goal (reasons_of g)) made second.made in
-    first.nodes ∙ (λ i. nodes_made (same_theory p q same i) (tableau i).nodes) ∙ sym second.nodes
+    first.nodes ∙ ap nodes_made tableau ∙ sym second.nodes
 
 -- so the file that is found is one
 same_file : (p q : Problem) (f g : ProofFile) → AreSame p q → IsProofFor p f → IsProofFor q g

@@ -18,7 +18,7 @@ module _ {J R F : Type 0} (c : LogicValue J R F) (Stands : J → Type 0) (Given 
   have_premises nodes g r ps None occur allowed h =
       let j = g.premise.judgement in
       let is = answer_is (c.premises j r) ps h in
-      let are = order.rules j r ps (suits.stands j occur.goal) (suits.given j r allowed) is in
+      let are = order.rules j r ps (suits.stands j occur.goal) (suits.given j r occur.goal allowed) is in
       record {
         few = are.few;
         each = λ k p at. record {
@@ -40,7 +40,7 @@ module _ {J R F : Type 0} (c : LogicValue J R F) (Stands : J → Type 0) (Given 
       let l = linked c nodes j r target e h in
       let k = judgement_of l.companion in
       let fit = order.links j r k l.pairs (suits.stands j occur.goal)
-      (suits.stands k (occur.made target l.companion l.is_companion)) (suits.given j r allowed) l.is in
+      (suits.stands k (occur.made target l.companion l.is_companion)) (suits.given j r occur.goal allowed) l.is in
       subst (IsBack (calculus_with c links rules) nodes g) l.edge
       (record { node = l.companion; is_node = l.is_companion; fit = fit })
 

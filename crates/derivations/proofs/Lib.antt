@@ -36,3 +36,4 @@ pub mod Graph
 pub mod LogicFound
 pub mod LogicSteps
 pub mod ByTarget
+mod Searched

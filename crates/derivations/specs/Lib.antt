@@ -19,3 +19,4 @@ pub mod Searches
 pub mod LogicNodes
 pub mod Found
 pub mod LogicEffects
+pub mod Outcomes

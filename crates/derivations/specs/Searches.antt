@@ -13,7 +13,7 @@ use Rattle.derivations.specs.Calculus.{Offers}
 pub record Suits {J R F : Type 0} (c : LogicValue J R F) (Stands : J → Type 0) (Given : J → R → Type 0)
     (links rules : Offers J R) (Occurs : J → Type 0) (Allows : R → Type 0) : Type 0 where
   pub stands : (j : J) → Occurs j → Stands j
-  pub given : (j : J) (r : R) → Allows r → Given j r
+  pub given : (j : J) (r : R) → Occurs j → Allows r → Given j r
   pub positions : (j : J) → Occurs j → IsPositionSet (c.positions j)
   pub premises : (j : J) (r : R) (ps : List (Subgoal J)) → Occurs j → Allows r → c.premises j r ≡ Ok ps
       → (k : ℕ) (p : Subgoal J) → slice_get ps k ≡ Some p → Occurs p.judgement

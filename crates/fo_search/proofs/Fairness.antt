@@ -45,7 +45,7 @@ module _ (t : FoTheory) where
   pub suits : Suits (first_order t) (MayStand t) (IsGiven t) (links_at t) (rules_at t) (MayOccur t) (IsReasonWithin t)
   suits = record {
     stands = stands;
-    given = λ s r within. reason_open t r within;
+    given = λ s r occurs within. reason_open t r within;
     positions = λ s occurs. places_set s.left occurs.1.0.left;
     premises = premises_occur;
     offers = λ nodes g r occur offer. offers_within t nodes g occur r offer;

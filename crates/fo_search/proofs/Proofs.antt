@@ -23,9 +23,9 @@ use Rattle.fo_search.specs.Calculus.{calculus_of}
 use Rattle.fo_search.specs.Occurring.{MayOccur}
 use Rattle.fo_search.proofs.Fairness.{first_order_fair}
 use Rattle.derivations.specs.Found.{IsSearchOf}
-use Rattle.logic_search.specs.declared.Proved.{Proved}
-use Rattle.logic_search.specs.declared.Proved.TheVariants as searched
-use Rattle.logic_search.specs.Outcomes as search
+use Rattle.derivations.specs.declared.found.searching.Proved.{Proved}
+use Rattle.derivations.specs.declared.found.searching.Proved.TheVariants as searched
+use Rattle.derivations.specs.Outcomes as search
 use Rattle.fo_search.specs.Files.{proof_nodes}
 use Rattle.fo_search.specs.Found.{AreProof}
 use Rattle.fo_search.proofs.Found.{makes_proof}

@@ -15,8 +15,8 @@ use Rattle.fo_logic.specs.Verdicts.{file_graph, state_limit, IsCorrect, RootHold
 use Rattle.fo_logic.specs.Limits.{IsNodeWithin}
 use Rattle.fo_search.specs.Calculus.{calculus_of, search_system}
 use Rattle.fo_search.specs.Files.{proof_nodes}
-use Rattle.logic_search.specs.declared.Proved.{Proved}
-use Rattle.logic_search.specs.declared.Proved.TheVariants as searched
+use Rattle.derivations.specs.declared.found.searching.Proved.{Proved}
+use Rattle.derivations.specs.declared.found.searching.Proved.TheVariants as searched
 use Rattle.fo_formula.specs.declared.theory.FoTheory.{FoTheory}
 use Rattle.fo_search.specs.declared.prover.FoProved.{FoProved}
 use Rattle.fo_search.specs.declared.prover.FoProved.TheVariants.{Found, NotFound, TooManyDerivations, TooManyStates}

@@ -13,7 +13,7 @@ use derivations::Derivation;
 use fo_file::values::FoProblem;
 use fo_formula::{FoFile, FoNodes, FoReason, FoSequent, FoTheory};
 use fo_logic::FirstOrder;
-use logic_search::{Proved, search_proof};
+use derivations::found::{Proved, search_proof};
 use std::alloc::Global;
 
 /// What comes of a search: a proof; nothing, within the depth; or that a limit was met, on partial derivations of one

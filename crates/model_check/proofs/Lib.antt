@@ -11,6 +11,7 @@ pub mod CaseRules
 pub mod CaseLists
 pub mod QuestionLists
 pub mod Exact
+pub mod Parts
 pub mod WideWords
 pub mod PlaceLists
 pub mod FirstBad

@@ -1,6 +1,6 @@
 -- Parts of a heap and masks.
 use Rattle.std.proofs.Common.{◌≡◌, ◌≢◌, ℕ, zero, suc, ◌+◌, ◌-◌, ◌*◌, ◌^◌, ◌<◌, ◌≤◌, List, [], ◌∷◌, length, Bool, true}
-use Rattle.std.proofs.Common.{false, cond, Option, Some, None, refl, sym, ap, ◌∙◌, subst, inl, inr, arith}
+use Rattle.std.proofs.Common.{false, not, cond, Option, Some, None, refl, sym, ap, ◌∙◌, subst, inl, inr, arith}
 use Rattle.std.specs.Prelude.{nat_eq, ◌&&◌, ◌||◌, slice_index}
 use Rattle.std.proofs.lemmas.Bool.{eqb-true, eqb-false, eq-eqb, cases_Bool, cases_lt, ne_eqb}
 use Rattle.std.proofs.Math.Nat.{pow-suc}
@@ -11,8 +11,8 @@ use Rattle.std.proofs.lemmas.Nat.Bits.{bit_at-pow_same, bit_at-pow_other}
 use Rattle.std.specs.Option.{is_some}
 use Rattle.std.specs.Ordering.{nat_cmp, eq_by_cmp}
 use Rattle.std.specs.Cmp.{nat_cmp_total}
-use Rattle.std.specs.FinMap.{get-retain_keys, get-empty, nat_cmp-IsAntisymmetric}
-use Rattle.heap_formula.specs.Cells.{Cells, cell_at, no_cells, one_cell, Joins, IsUnion}
+use Rattle.std.specs.FinMap.{get-retain_keys, retain_keys, get-empty, nat_cmp-IsAntisymmetric}
+use Rattle.heap_formula.specs.Cells.{Cells, cell_at, no_cells, one_cell, Joins, IsPart, IsUnion}
 use Rattle.heap_formula.proofs.Unions.{same_cells}
 use Rattle.std.proofs.Math.Bool.{and-false, and-true, or-false, true-and}
 use Rattle.std.specs.Cmp.{eq_by_cmp_equiv}
@@ -79,11 +79,12 @@ no_from_bits b k i h = ap (λ x. nat_eq x 1) (bit_at_above (from_bits b k) k i (
 
 -- ---- parts and masks
 
+at_kept : (keep : ℕ → Bool) (h : Cells) (a : ℕ) → cell_at (retain_keys h keep) a ≡ cond (keep a) (cell_at h a) None
+at_kept keep h a = get-retain_keys h keep a (λ x t. ap keep (sym (nat_cmp-IsAntisymmetric a x t)))
+
 pub at_part_of : (addresses : List ℕ) (h : Cells) (m a : ℕ)
     → cell_at (part_of addresses h m) a ≡ cond (is_one m (place addresses a)) (cell_at h a) None
-at_part_of addresses h m a =
-    get-retain_keys h (λ k. is_one m (place addresses k)) a
-    (λ x t. ap (λ k. is_one m (place addresses k)) (sym (nat_cmp-IsAntisymmetric a x t)))
+at_part_of addresses h m a = at_kept (λ k. is_one m (place addresses k)) h a
 
 joins_bits : {X : Type 0} (b c : Bool) (x : Option X) → (b && c) ≡ false
     → Joins (cond b x None) (cond c x None) (cond (b || c) x None)
@@ -106,6 +107,23 @@ part_union addresses h f r m u = record {
       (cond d (cell_at h a) None)) (sym some) (joins_bits (is_one f i) (is_one r i) (cell_at h a) none) in
       rw (at_part_of addresses h f a, at_part_of addresses h r a, at_part_of addresses h m a) j;
 }
+
+joins_kept : {X : Type 0} (b : Bool) (x : Option X) → Joins (cond b x None) (cond (not b) x None) x
+joins_kept true None = refl
+joins_kept true (Some x) = refl
+joins_kept false x = refl
+
+-- the part at some places is a part: the others are the rest
+pub part_is_part : (addresses : List ℕ) (h : Cells) (m : ℕ) → IsPart (part_of addresses h m) h
+part_is_part addresses h m = (
+  retain_keys h (λ a. not (is_one m (place addresses a))),
+  record {
+    joins = λ a.
+        let kept = is_one m (place addresses a) in
+        rw (at_part_of addresses h m a, at_kept (λ k. not (is_one m (place addresses k))) h a)
+        (joins_kept kept (cell_at h a));
+  },
+)
 
 -- ---- addresses and places
 

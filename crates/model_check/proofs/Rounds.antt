@@ -151,14 +151,18 @@ module _ (ds : List Definition) (h : Cells) (ns : List ℕ) (qs : List Question)
   whole : part_of ns h (mask_of ns h) ≡ h
   whole = part_mask ns h h covers (inside_all h)
 
+  pub part_satisfies : (s e : Stack) (a : SymbolicHeap) (ys : List Piece) (m : ℕ) → Fits h s e a
+      → PiecesFit ns qs s e a.spatial ys → Unions (derived rules) ys m → Satisfies ds s (part_of ns h m) a
+  part_satisfies s e a ys m f z u =
+      let x = unions_spatial h ns qs covers heap s e (derived rules) (least ds)
+      (λ j m p vs i d. (d.0, round_stage d.0 j m p vs i d.1)) a.spatial ys m f.cells z u in
+      let w = one_stage ds s e a.spatial (part_of ns h m) x in
+      (λ _. w.0, (e, (f.pure, w.1)))
+
   pub unions_satisfy : (s e : Stack) (a : SymbolicHeap) (ys : List Piece) → Fits h s e a
       → PiecesFit ns qs s e a.spatial ys → Unions (derived rules) ys (mask_of ns h) → Satisfies ds s h a
   unions_satisfy s e a ys f z u =
-      let x = unions_spatial h ns qs covers heap s e (derived rules) (least ds)
-      (λ j m p vs i d. (d.0, round_stage d.0 j m p vs i d.1)) a.spatial ys (mask_of ns h) f.cells z u in
-      let y = subst (λ c. SpatialHolds (λ _. least ds) s e a.spatial c) whole x in
-      let w = one_stage ds s e a.spatial h y in
-      (λ _. w.0, (e, (f.pure, w.1)))
+      subst (λ c. Satisfies ds s c a) whole (part_satisfies s e a ys (mask_of ns h) f z u)
 
 module _ (ds : List Definition) (h : Cells) (ns : List ℕ) (qs : List Question) (rules : List GroundRule)
     (g : Grounds ds h ns qs rules) where
@@ -182,15 +186,16 @@ module _ (ds : List Definition) (h : Cells) (ns : List ℕ) (qs : List Question)
             (λ j u us c x y t. stage_round n j u us c x y t) b.spatial r.pieces part w f.cells z.1 one.1.1.1.1,
       )) rules (one.1.0 e f)
 
-  pub satisfied_unions : (s e : Stack) (a : SymbolicHeap) (ys : List Piece) → IsOnly h s e a
-      → PiecesFit ns qs s e a.spatial ys → Satisfies ds s h a → Unions (derived rules) ys (mask_of ns h)
-  satisfied_unions s e a ys k z x =
+  pub satisfied_unions : (s e : Stack) (a : SymbolicHeap) (ys : List Piece) (part : Cells) → Inside part h
+      → IsOnly h s e a → PiecesFit ns qs s e a.spatial ys → Satisfies ds s part a
+      → Unions (derived rules) ys (mask_of ns part)
+  satisfied_unions s e a ys part w k z x =
       let o = x.1.0 in
-      let f : Fits h s o a = holds_fits (λ k. at_stage ds (x.0 k)) s o a h h (inside_all h) x.1.1 in
+      let f : Fits h s o a = holds_fits (λ k. at_stage ds (x.0 k)) s o a part h w x.1.1 in
       let y = spatial_within (λ k. at_stage ds (x.0 k)) (λ _. least ds) (λ k p vs c d. (x.0 k, d))
-      s o a.spatial h x.1.1.1 in
+      s o a.spatial part x.1.1.1 in
       spatial_unions h ns qs g.covers g.heap s o (derived rules) (least ds)
-      (λ j p vs c i w d. (d.0, stage_round d.0 j p vs c i w d.1)) a.spatial ys h (inside_all h) f.cells
+      (λ j p vs c i w d. (d.0, stage_round d.0 j p vs c i w d.1)) a.spatial ys part w f.cells
       (pieces_agree ns qs s e s o a.spatial ys (k.only o f).1 z) y
 
 -- ---- a table that is sound and closed has what is derived

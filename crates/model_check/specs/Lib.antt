@@ -1,5 +1,6 @@
 pub mod Constructive
 pub mod MaskParts
+pub mod Parts
 pub mod Ground
 pub mod Grounding
 pub mod Steps

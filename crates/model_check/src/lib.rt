@@ -19,6 +19,6 @@ pub use known::{ValueStep, is_constructive, is_heap_known, is_known, known_terms
 pub use mask::Mask;
 pub use places::{Place, constructive, constructive_all};
 pub use questions::Question;
-pub use satisfaction::{heap_places, is_given, satisfied, whole_mask};
+pub use satisfaction::{heap_places, is_given, satisfied, satisfied_by_part, whole_mask};
 pub use solving::solve;
 pub use unions::Row;

@@ -6,7 +6,8 @@ ghost use Rattle.heap_formula.specs.Meaning.{Satisfies};
 ghost use Rattle.model_check.specs.Constructive.{IsConstructive, AreConstructive, IsOnly};
 ghost use Rattle.cyc_basics.specs.Words.{IsMember};
 ghost use Rattle.model_check.specs.ForcedLocals.{stack_of};
-ghost use Rattle.model_check.specs.WideMasks.{number, HoldsMask};
+ghost use Rattle.model_check.specs.WideMasks.{number};
+ghost use Rattle.model_check.specs.Parts.{AreMasksOf, SomePartSatisfies};
 ghost use Rattle.model_check.specs.MaskParts.{place, from_bits, stands, mask_of, Covers};
 ghost use Rattle.model_check.specs.Ground.{Unions, IsSolved};
 ghost use Rattle.model_check.specs.declared.ground.GroundRule.{GroundRule};
@@ -104,7 +105,8 @@ fn table_of(
     solve(alloc, &rules, questions.len())
 }
 
-/// The masks of the parts of the heap that consist of a part for each spatial atom, at these values of the locals.
+/// The masks of the parts of the heap that satisfy the formula, where these values of its locals are the only ones that
+/// fit: each consists of a part for each spatial atom.
 fn masks_of(
     alloc: Global,
     defs: &Defs,
@@ -118,8 +120,7 @@ fn masks_of(
     requires covers { Covers places.now.keys cells.now }
     requires heap { IsHeap cells.now }
     requires only { IsOnly cells.now stack.now (stack_of locals.now) ask.now }
-    ensures { IfOk result (λ masks. HoldsMask (mask_of places.now.keys cells.now) masks
-        ↔ Satisfies defs.now.list stack.now cells.now ask.now) }
+    ensures { IfOk result (AreMasksOf defs.now.list places.now.keys stack.now cells.now ask.now) }
 {
     let mut questions = IndexSet::new(alloc);
     let pieces = pieces_of(alloc, places, &mut questions, stack, locals, ask.spatial())?;
@@ -202,5 +203,48 @@ pub fn satisfied(
     match locals_of(alloc, stack.as_slice(), heap, ask)? {
         None => Ok(false),
         Some(locals) => satisfied_with(alloc, defs, stack.as_slice(), heap, &locals, ask),
+    }
+}
+
+/// Whether there is such a part where these values of the formula's locals are the only ones that fit the whole heap.
+fn satisfied_by_part_with(
+    alloc: Global,
+    defs: &Defs,
+    stack: &[u64],
+    cells: &Cells,
+    locals: &[Local],
+    ask: &Heap,
+) -> Result<bool, OutOfMemory>
+    requires constructive { AreConstructive defs.now.list }
+    requires only { IsOnly cells.now stack.now (stack_of locals.now) ask.now }
+    ensures { IfOk result (λ b. IsTrue b ↔ SomePartSatisfies defs.now.list stack.now cells.now ask.now) }
+{
+    let places = heap_places(alloc, cells)?;
+    let masks = masks_of(alloc, defs, stack, cells, &places, locals, ask);
+    drop(places);
+    let masks = masks?;
+    let is_none = masks.as_slice().is_empty();
+    drop(masks);
+    Ok(!is_none)
+}
+
+/// Whether the stack and some part of the heap satisfy the formula, under the least meaning of the definitions: then the
+/// heap satisfies it beside something else. `constructive` names no place of the definitions and the formula.
+pub fn satisfied_by_part(
+    alloc: Global,
+    defs: &Defs,
+    stack: &Stack,
+    heap: &Cells,
+    ask: &Heap,
+) -> Result<bool, OutOfMemory>
+    requires definitions { AreConstructive defs.now.list }
+    requires formula { IsConstructive ask.now }
+    ensures exact { IfOk result (λ b. IsTrue b ↔ SomePartSatisfies defs.now.list stack.now heap.now ask.now) }
+{
+    match locals_of(alloc, stack.as_slice(), heap, ask)? {
+        None => Ok(false),
+        Some(locals) => {
+            satisfied_by_part_with(alloc, defs, stack.as_slice(), heap, &locals, ask)
+        }
     }
 }

@@ -1,5 +1,5 @@
 -- The terms of a heap within the limits.
-use Rattle.std.proofs.Common.{ℕ, ◌≤◌, List, [], ◌∷◌, map, arith, leb-true}
+use Rattle.std.proofs.Common.{◌≤◌, List, [], ◌∷◌, map, arith, leb-true}
 use Rattle.cyc_basics.specs.declared.limits.Limits.{Limits}
 use Rattle.heap_formula.specs.declared.atoms.Spatial.{Spatial}
 use Rattle.heap_formula.specs.declared.atoms.Spatial.TheVariants.{Cell, Pred}

@@ -1,6 +1,6 @@
 -- The links that a goal within the limits is offered are within them, and lead to nodes before the goal.
-use Rattle.std.proofs.Common.{◌≡◌, ℕ, ◌+◌, ◌<◌, ◌≤◌, List, [], ◌∷◌, map, length, length-take, take, Some, refl, sym}
-use Rattle.std.proofs.Common.{subst, arith}
+use Rattle.std.proofs.Common.{◌≡◌, ℕ, ◌+◌, ◌<◌, ◌≤◌, List, [], ◌∷◌, map, length, take, Some, refl}
+use Rattle.std.proofs.Common.{arith}
 use Rattle.std.proofs.lemmas.Option.{slice_get_within}
 use Rattle.std.specs.Prelude.{slice_get}
 use Rattle.std.specs.List.{flat_map, range_with_len}
@@ -17,14 +17,13 @@ use Rattle.rule_table.specs.LinkTable.{link_fault}
 use Rattle.rule_table.specs.RuleBook.{variables_of}
 use Rattle.back_links.specs.Listing.{stands_in, universals, selections, value_choices, values_of, maps, substitutions}
 use Rattle.back_links.specs.Listing.{covers, link_of, links, candidates as choices_of}
-use Rattle.proof_graph.specs.declared.nodes.GraphNode.{GraphNode}
+use Rattle.search_moves.specs.Nodes.{OpenGoal, MadeNode, judgement_of}
 use Rattle.search_moves.specs.Trying.{Theory}
 use Rattle.search_moves.specs.Offering.{is_companion, links_to, candidates, rules_before, links_offered}
 use Rattle.rule_book.specs.Limits.{IsJudgementWithin, IsTermWithin, IsPairWithin, IsReasonWithin}
 use Rattle.proof_search.proofs.Members.{each_if, each_filter, each_unless_some, each_flat_map, each_placed}
 use Rattle.proof_search.proofs.HeapTerms.{judgement_below}
 use Rattle.heap_formula.proofs.AllMembers.{each_any, each_imply, each_mapped, each_made, each_take, range_below}
-use Rattle.cyc_basics.proofs.Places.{get_taken}
 
 -- ---- the universal variables of a judgement
 
@@ -82,34 +81,35 @@ links_each P Q bud companion target p subs h =
     (covers bud companion)))))
 
 -- what holds of each link to a node before the goal holds of each that is offered
-offered_each : (P : Link → Type 0) (most : ℕ) (t : Theory) (nodes : List GraphNode) (goal : ℕ) (j : Judgement)
-    → ((k : ℕ) (node : GraphNode) → k < goal → slice_get nodes k ≡ Some node
-    → Each P (links j node.judgement k (variables_of t.lines j))) → (k : ℕ) (node : GraphNode)
-    → slice_get (take goal nodes) k ≡ Some node → Each P (links_to most t.lines j k node)
-offered_each P most t nodes goal j h k node e =
-    let found = links j node.judgement k (variables_of t.lines j) in
-    let less : k < goal = omega (arith, slice_get_within (take goal nodes) k node e, length-take goal nodes) in
-    each_if P (is_companion j node) (take most found)
-    (each_take P most found (h k node less (get_taken nodes goal k node e)))
+offered_each : (P : Link → Type 0) (most : ℕ) (t : Theory) (nodes : List MadeNode) (j : Judgement)
+    → ((k : ℕ) (node : MadeNode) → slice_get nodes k ≡ Some node
+    → Each P (links j (judgement_of node) k (variables_of t.lines j))) → (k : ℕ) (node : MadeNode)
+    → slice_get nodes k ≡ Some node → Each P (links_to most t.lines j k node)
+offered_each P most t nodes j h k node e =
+    let found = links j (judgement_of node) k (variables_of t.lines j) in
+    each_if P (is_companion j node) (take most found) (each_take P most found (h k node e))
 
-pub all_offered : (P : Link → Type 0) (t : Theory) (nodes : List GraphNode) (goal : ℕ) (j : Judgement)
-    → ((k : ℕ) (node : GraphNode) → k < goal → slice_get nodes k ≡ Some node
-    → Each P (links j node.judgement k (variables_of t.lines j))) → Each P (links_offered t nodes goal j)
-all_offered P t nodes goal j h =
-    each_unless_some P (rules_before t j) (candidates t.lines nodes goal j)
-    (each_placed P (links_to 1000000 t.lines j) (take goal nodes) (offered_each P 1000000 t nodes goal j h))
+pub all_offered : (P : Link → Type 0) (t : Theory) (nodes : List MadeNode) (g : OpenGoal)
+    → ((k : ℕ) (node : MadeNode) → slice_get nodes k ≡ Some node
+    → Each P (links g.premise.judgement (judgement_of node) k (variables_of t.lines g.premise.judgement)))
+    → Each P (links_offered t nodes g)
+all_offered P t nodes g h =
+    let j = g.premise.judgement in
+    each_unless_some P (rules_before t j) (candidates t.lines nodes j)
+    (each_placed P (links_to 1000000 t.lines j) nodes (offered_each P 1000000 t nodes j h))
 
-pub links_within : (t : Theory) (nodes : List GraphNode) (goal : ℕ) (j : Judgement)
-    → IsJudgementWithin t.most t.definitions (length t.lines) j
-    → ((v : ℕ) (node : GraphNode) → slice_get nodes v ≡ Some node
-    → IsJudgementWithin t.most t.definitions (length t.lines) node.judgement)
-    → Each (λ (link : Link). IsReasonWithin t.most t.definitions (Back link)) (links_offered t nodes goal j)
-links_within t nodes goal j w ws =
-    all_offered (λ (link : Link). IsReasonWithin t.most t.definitions (Back link)) t nodes goal j (λ k node lt e.
-    links_each (λ (link : Link). IsReasonWithin t.most t.definitions (Back link)) (Each IsPairWithin) j node.judgement k
-    (variables_of t.lines j)
-    (substitutions_within j node.judgement (judgement_below t.most t.definitions j w.heaps)
-    (judgement_below t.most t.definitions node.judgement (ws k node e).heaps))
+pub links_within : (t : Theory) (nodes : List MadeNode) (g : OpenGoal)
+    → IsJudgementWithin t.most t.definitions (length t.lines) g.premise.judgement
+    → ((v : ℕ) (node : MadeNode) → slice_get nodes v ≡ Some node
+    → IsJudgementWithin t.most t.definitions (length t.lines) (judgement_of node))
+    → Each (λ (link : Link). IsReasonWithin t.most t.definitions (Back link)) (links_offered t nodes g)
+links_within t nodes g w ws =
+    let j = g.premise.judgement in
+    all_offered (λ (link : Link). IsReasonWithin t.most t.definitions (Back link)) t nodes g (λ k node e.
+    links_each (λ (link : Link). IsReasonWithin t.most t.definitions (Back link)) (Each IsPairWithin) j
+    (judgement_of node) k (variables_of t.lines j)
+    (substitutions_within j (judgement_of node) (judgement_below t.most t.definitions j w.heaps)
+    (judgement_below t.most t.definitions (judgement_of node) (ws k node e).heaps))
     (λ places s entries q. q))
 
 -- each leads to the node that it was made for
@@ -120,10 +120,12 @@ links_target bud companion target p =
     (each_any (λ (s : Bindings). Unit {0}) (λ s. tt) (substitutions bud companion))
     (λ places s entries q. refl)
 
-pub links_back : (t : Theory) (nodes : List GraphNode) (goal : ℕ) (j : Judgement)
-    → Each (λ (link : Link). link.target < goal) (links_offered t nodes goal j)
-links_back t nodes goal j =
-    all_offered (λ (link : Link). link.target < goal) t nodes goal j (λ k node lt e.
-    each_imply (λ (link : Link). link.target ≡ k) (λ (link : Link). link.target < goal)
-    (λ link same. subst (λ v. v < goal) (sym same) lt) (links j node.judgement k (variables_of t.lines j))
-    (links_target j node.judgement k (variables_of t.lines j)))
+pub links_back : (t : Theory) (nodes : List MadeNode) (g : OpenGoal)
+    → Each (λ (link : Link). link.target < length nodes) (links_offered t nodes g)
+links_back t nodes g =
+    let j = g.premise.judgement in
+    all_offered (λ (link : Link). link.target < length nodes) t nodes g (λ k node e.
+    let less = slice_get_within nodes k node e in
+    each_imply (λ (link : Link). link.target ≡ k) (λ (link : Link). link.target < length nodes)
+    (λ link same. omega (arith, same, less)) (links j (judgement_of node) k (variables_of t.lines j))
+    (links_target j (judgement_of node) k (variables_of t.lines j)))

@@ -1,47 +1,56 @@
 -- What is found is a proof of the problem's goal.
-use Rattle.std.proofs.Common.{◌≡◌, ℕ, ◌<◌, ◌≤◌, List, [], map, Some, slice_get, length, arith, sym, ap, subst, ◌∙◌}
+use Rattle.std.proofs.Common.{◌≡◌, ℕ, ◌<◌, ◌≤◌, List, length, arith, refl, sym, ap, subst, ◌∙◌}
 use Rattle.std.proofs.lemmas.Option.{slice_get_within, same_Some}
 use Rattle.cyc_basics.specs.Limits.{AreLimits}
 use Rattle.cyc_basics.specs.declared.limits.Limits.{Limits}
 use Rattle.cyc_basics.specs.declared.limits.TheConstants.{MOST_SPATIAL}
 use Rattle.heap_formula.specs.declared.judgements.Judgement.{Judgement}
-use Rattle.trace_pairs.specs.Lasso.{AllProgress}
-use Rattle.buchi_inclusion.specs.Answers.{HasAtMost, state_limit}
 use Rattle.heap_formula.specs.declared.proof_rules.Reason.{Reason}
 use Rattle.heap_formula.specs.Definitions.{Definition}
 use Rattle.heap_formula.specs.Judgements.{antecedent}
 use Rattle.heap_formula.specs.Words.{Each}
-use Rattle.goto_lang.specs.Lines.{IsProgram}
-use Rattle.symbolic_exec.proofs.ProgramLines.{program_commands}
-use Rattle.derivations.specs.System.{search_of, IsFound}
-use Rattle.formula_reader.specs.declared.problem.Problem.{Problem}
-use Rattle.proof_file.specs.declared.file.ProofFile.{ProofFile}
-use Rattle.proof_file.specs.FileNodes.{FileNode}
-use Rattle.proof_check.specs.Files.{graph_of, AreRight, HasSmallHeaps}
-use Rattle.proof_check.specs.Verdicts.{IsCorrect}
 use Rattle.heap_formula.proofs.AllMembers.{each_at, each_imply}
-use Rattle.proof_check.proofs.KeptFacts.{root_holds}
+use Rattle.rule_table.proofs.SameJudgements.{same_judgement_self}
 use Rattle.heap_syntax.specs.declared.version.Version.{Version}
 use Rattle.heap_syntax.specs.declared.version.Version.TheVariants.{One, Two, Three}
 use Rattle.heap_syntax.specs.Versions.{limits as limits_of}
 use Rattle.heap_reader.proofs.Fitting.{most_fits}
+use Rattle.goto_lang.specs.Lines.{IsProgram}
+use Rattle.symbolic_exec.proofs.ProgramLines.{program_commands}
+use Rattle.buchi_inclusion.specs.Answers.{state_limit}
+use Rattle.formula_reader.specs.declared.problem.Problem.{Problem}
+use Rattle.formula_reader.specs.Nodes.{IsNodeWithin}
+use Rattle.proof_file.specs.declared.file.ProofFile.{ProofFile}
+use Rattle.proof_file.specs.FileNodes.{FileNode}
+use Rattle.proof_check.specs.Files.{HasSmallHeaps}
+use Rattle.proof_check.proofs.KeptFacts.{root_holds}
 use Rattle.rule_book.specs.Limits.{IsDefinitionWithin, IsHeapWithin, IsJudgementWithin}
 use Rattle.rule_book.proofs.Heaps.{short_spatials}
 use Rattle.rule_book.proofs.Judgements.{first_heap}
-use Rattle.formula_reader.specs.Nodes.{IsNodeWithin}
 use Rattle.search_moves.specs.Limits.{IsSmall}
 use Rattle.search_moves.specs.Settings.{theory}
 use Rattle.search_moves.specs.Trying.{Theory}
+use Rattle.derivations.specs.Derivations.{search_in}
+use Rattle.derivations.specs.Found.{IsSearchOf, IsProof}
+use Rattle.derivations.specs.Outcomes as search
+use Rattle.derivations.specs.Search.{system_of}
+use Rattle.derivations.specs.System.{search_of, IsFound}
 use Rattle.derivations.specs.Tableau.{Tableau, replay}
-use Rattle.proof_search.specs.Search.{calculus_of, search_system}
-use Rattle.proof_search.specs.Files.{nodes_made}
-use Rattle.proof_search.specs.Found.{IsWithinLimits, AreProof}
+use Rattle.derivations.specs.declared.found.searching.Proved.{Proved as ProvedBy}
+use Rattle.derivations.specs.declared.found.searching.Proved.TheVariants as searched
+use Rattle.derivations.proofs.Firsts.{first_found}
+use Rattle.proof_search.specs.declared.prover.Proved.{Proved}
+use Rattle.proof_search.specs.declared.prover.Proved.TheVariants.{Found, NotFound, TooManyDerivations, TooManyStates}
+use Rattle.proof_search.specs.Calculus.{logic_over, calculus_of}
+use Rattle.proof_search.specs.Found.{nodes_made, AreProof}
+use Rattle.proof_search.specs.Moves.{Moves, calculus_in, occurs_in, allows_in, IsOfProblem}
+use Rattle.proof_search.specs.Outcomes.{theory_for, search_for, outcome_of, IsFirst, IsFileOf, IsOver, IsProofFor}
+use Rattle.proof_search.specs.Outcomes.{IsProved, MayStandIn}
+use Rattle.proof_search.specs.Problems.{IsWithinLimits, MayGive}
+use Rattle.proof_search.proofs.Fair.{separation_logic_fair}
 use Rattle.proof_search.proofs.FileFound.{makes_proof}
-use Rattle.proof_search.specs.declared.moves.derivation.Derivation.{Derivation}
-use Rattle.proof_search.specs.Derivations.{theory_in, nodes_in, goals_in, reasons_in, tableau_in, about, IsInOrder}
-use Rattle.proof_search.specs.Derivations.{IsItsSearch}
-use Rattle.proof_search.specs.Outcomes.{theory_for, search_for, reasons_of, IsProofFor}
-use Rattle.proof_search.proofs.FileNodes.{reasons_made}
+
+-- ---- problems are within the limits
 
 -- each version allows a spatial atom
 some_atoms : (version : Version) → 0 < (limits_of version).spatial
@@ -55,111 +64,6 @@ limit_bounded problem = subst (λ (most : Limits). AreLimits most) (sym problem.
 limit_positive : (problem : Problem) → 0 < problem.defs.most.spatial
 limit_positive problem = subst (λ (most : Limits). 0 < most.spatial) (sym problem.limit) (some_atoms problem.version)
 
-pub are_small : (problem : Problem) → IsWithinLimits (theory_for problem) problem.goal → Each IsSmall problem.defs.list
-are_small problem limits =
-    each_imply (IsDefinitionWithin problem.defs.most problem.defs.list) IsSmall
-    (λ d h. record {
-      parameters = omega (arith, h.arity, limits.most.arguments);
-      cases = omega (arith, h.few, limits.most.cases);
-    }) problem.defs.list limits.definitions
-
--- the moves, with what they found
-pub record HasFound (problem : Problem) (moves : Derivation) : Type 0 where
-  pub same_theory : theory_in moves ≡ theory_for problem
-  pub closed : goals_in moves ≡ []
-  pub tableau : Tableau Judgement Reason
-  pub made : replay (calculus_of (theory_for problem)) problem.goal (reasons_in moves) ≡ Some tableau
-  pub nodes : tableau.nodes ≡ nodes_in moves
-  pub proof : AreProof (theory_for problem) problem.goal (nodes_made (theory_for problem) (nodes_in moves))
-
-pub has_found : (problem : Problem) (moves : Derivation) (most depth : ℕ) → IsInOrder moves
-    → about moves ≡ (problem.defs, (problem.program, problem.goal)) → IsWithinLimits (theory_for problem) problem.goal
-    → IsFound (reasons_in moves) ≡ search_of (search_for problem) most depth → HasFound problem moves
-has_found problem moves most depth order is_about limits found =
-    let same_defs = ap (λ (x : _). x.0) is_about in
-    let same_program = ap (λ (x : _). x.1.0) is_about in
-    let same_root = ap (λ (x : _). x.1.1) is_about in
-    let same : theory_in moves ≡ theory_for problem = λ i.
-    record { most = (same_defs i).most; definitions = (same_defs i).list; lines = same_program i } in
-    let makes = makes_proof (theory_for problem) problem.goal most depth (reasons_in moves) limits (sym found) in
-    let both : makes.tableau ≡ tableau_in moves = same_Some makes.tableau (tableau_in moves)
-    (sym makes.made ∙ ((λ i. replay (calculus_of (sym same i)) (sym same_root i) (reasons_in moves))
-    ∙ order.is.replayed)) in
-    record {
-      same_theory = same;
-      closed = sym (ap (λ (b : Tableau Judgement Reason). b.goals) both) ∙ makes.closed;
-      tableau = makes.tableau;
-      made = makes.made;
-      nodes = ap (λ (b : Tableau Judgement Reason). b.nodes) both;
-      proof = subst (λ ns. AreProof (theory_for problem) problem.goal (nodes_made (theory_for problem) ns))
-          (ap (λ (b : Tableau Judgement Reason). b.nodes) both) makes.proof;
-    }
-
--- a proof has a node
-pub some_node : (t : Theory) (goal : Judgement) (nodes : List FileNode) → AreProof t goal nodes → 0 < length nodes
-some_node t goal nodes proof = let n = slice_get_within nodes 0 proof.root proof.is_root in omega (arith, n)
-
--- an antecedent within the limits has few spatial atoms
-few_atoms : (most : Limits) → AreLimits most → (ds : List Definition) (count : ℕ) (j : Judgement)
-    → IsJudgementWithin most ds count j → length (antecedent j).spatial ≤ MOST_SPATIAL
-few_atoms most bounded ds count j h =
-    let few = short_spatials most (antecedent j) (first_heap (IsHeapWithin most ds) j h.heaps).short in
-    omega (arith, few, bounded.spatial)
-
-small_heaps : (t : Theory) (nodes : List FileNode) → AreLimits t.most
-    → Each (IsNodeWithin t.most t.definitions (length t.lines)) nodes → HasSmallHeaps nodes
-small_heaps t nodes bounded within v node at =
-    let w = each_at (IsNodeWithin t.most t.definitions (length t.lines)) nodes v node at within in
-    few_atoms t.most bounded t.definitions (length t.lines) node.judgement w.judgement
-
-module _ (problem : Problem) (f : ProofFile) (moves : Derivation) (h : HasFound problem moves)
-    (is_program : IsProgram problem.program) (same_version : f.version ≡ problem.version)
-    (same_defs : f.defs ≡ problem.defs) (same_program : f.program ≡ problem.program)
-    (same_nodes : f.nodes ≡ nodes_made (theory_for problem) (nodes_in moves))
-    (same_reasons : reasons_of f ≡ reasons_in moves) where
-  graph_same : graph_of problem.defs.most problem.defs.list problem.program
-      (nodes_made (theory_for problem) (nodes_in moves)) ≡ graph_of f.defs.most f.defs.list f.program f.nodes
-  graph_same = λ i. graph_of (sym same_defs i).most (sym same_defs i).list (sym same_program i) (sym same_nodes i)
-
-  correct : IsCorrect f
-  correct = record {
-    nodes = subst (λ (ds : _). AreRight ds.most ds.list f.program f.nodes) (sym same_defs)
-        (subst (λ lines. AreRight problem.defs.most problem.defs.list lines f.nodes) (sym same_program)
-        (subst (λ ns. AreRight problem.defs.most problem.defs.list problem.program ns) (sym same_nodes) h.proof.right));
-    paths = subst AllProgress graph_same h.proof.paths;
-  }
-
-  small : HasSmallHeaps f.nodes
-  small = subst (λ ns. HasSmallHeaps ns) (sym same_nodes)
-      (small_heaps (theory_for problem) (nodes_made (theory_for problem) (nodes_in moves)) (limit_bounded problem)
-      h.proof.within)
-
-  pub is_proof : IsProofFor problem f
-  is_proof = record {
-    version = same_version;
-    definitions = same_defs;
-    program = same_program;
-    tableau = h.tableau;
-    made = ap (replay (calculus_of (theory_for problem)) problem.goal) same_reasons ∙ h.made;
-    nodes = same_nodes ∙ ap (nodes_made (theory_for problem)) (sym h.nodes);
-    root = h.proof.root;
-    is_root = ap (λ (ns : List FileNode). slice_get ns 0) same_nodes ∙ h.proof.is_root;
-    goal = h.proof.proves;
-    correct = correct;
-    states = subst (λ g. HasAtMost g state_limit) graph_same h.proof.states;
-    holds = root_holds f (program_commands f.program (subst IsProgram (sym same_program) is_program))
-        correct.nodes small correct.paths;
-  }
-
--- the search that new moves follow
-pub follows : (problem : Problem) (moves : Derivation) → moves.defs ≡ problem.defs → moves.program ≡ problem.program
-    → moves.root ≡ problem.goal → IsItsSearch moves (search_for problem)
-follows problem moves d p g = λ i. search_system (theory (sym d i) (sym p i)) (sym g i)
-
-pub same_about : (problem : Problem) (moves : Derivation) → moves.defs ≡ problem.defs → moves.program ≡ problem.program
-    → moves.root ≡ problem.goal → about moves ≡ (problem.defs, (problem.program, problem.goal))
-same_about problem moves d p g = λ i. (d i, (p i, g i))
-
 pub within : (problem : Problem) → Each (IsDefinitionWithin problem.defs.most problem.defs.list) problem.defs.list
     → IsProgram problem.program → IsJudgementWithin problem.defs.most problem.defs.list (length problem.program)
     problem.goal → IsWithinLimits (theory_for problem) problem.goal
@@ -171,7 +75,120 @@ within problem definitions program goal = record {
   goal_within = goal;
 }
 
-pub same_reasons : (problem : Problem) (f : ProofFile) (moves : Derivation)
-    → f.nodes ≡ nodes_made (theory_for problem) (nodes_in moves) → reasons_of f ≡ reasons_in moves
-same_reasons problem f moves e = ap (map (λ (n : FileNode). n.reason)) e
-    ∙ reasons_made (theory_for problem) moves.made.items
+-- their definitions are small
+pub are_small : (t : Theory) (j : Judgement) → IsWithinLimits t j → Each IsSmall t.definitions
+are_small t j h =
+    each_imply (IsDefinitionWithin t.most t.definitions) IsSmall
+    (λ d w. record {
+      parameters = omega (arith, w.arity, h.most.arguments);
+      cases = omega (arith, w.few, h.most.cases);
+    }) t.definitions h.definitions
+
+-- ---- the search
+
+-- the calculus of the moves is that of the problem's theory
+pub is_search : (problem : Problem) (start : Moves) → IsOfProblem problem start
+    → IsSearchOf (logic_over (theory_for problem)) (calculus_in start.logic) (occurs_in start.logic)
+    (allows_in start.logic)
+is_search problem start is =
+    subst (λ t. IsSearchOf (logic_over (theory_for problem)) (calculus_of t) (IsWithinLimits t) (MayGive t))
+    (sym is.theory)
+    (record { is = refl; fair = separation_logic_fair (theory_for problem); itself = same_judgement_self })
+
+-- and their search that for a proof of its goal
+pub same_search : (problem : Problem) (start : Moves) → IsOfProblem problem start
+    → search_in calculus_in start ≡ search_for problem
+same_search problem start is = λ i. system_of (calculus_of (is.theory i)) (is.limit i) state_limit (is.root i)
+
+few_atoms : (most : Limits) → AreLimits most → (ds : List Definition) (count : ℕ) (j : Judgement)
+    → IsJudgementWithin most ds count j → length (antecedent j).spatial ≤ MOST_SPATIAL
+few_atoms most bounded ds count j h =
+    let few = short_spatials most (antecedent j) (first_heap (IsHeapWithin most ds) j h.heaps).short in
+    omega (arith, few, bounded.spatial)
+
+small_heaps : (t : Theory) (nodes : List FileNode) → AreLimits t.most
+    → Each (IsNodeWithin t.most t.definitions (length t.lines)) nodes → HasSmallHeaps nodes
+small_heaps t nodes bounded each v node at =
+    let w = each_at (IsNodeWithin t.most t.definitions (length t.lines)) nodes v node at each in
+    few_atoms t.most bounded t.definitions (length t.lines) node.judgement w.judgement
+
+module _ (problem : Problem) (may : IsWithinLimits (theory_for problem) problem.goal) (most depth : ℕ) where
+  abbrev t : Theory
+  t = theory_for problem
+
+  found_is : (nodes : List FileNode) → search.IsFoundProof (logic_over t) (calculus_of t) problem.goal nodes →
+      IsFound (search.reasons_of nodes) ≡ search_of (search_for problem) most depth → AreProof t problem.goal nodes
+  found_is nodes is found =
+      let makes = makes_proof t problem.goal most depth (search.reasons_of nodes) may (sym found) in
+      let same : makes.tableau ≡ is.tableau = same_Some makes.tableau is.tableau (sym makes.made ∙ is.made) in
+      subst (AreProof t problem.goal) (sym is.are)
+      (subst (λ (b : Tableau Judgement Reason). AreProof t problem.goal (nodes_made b)) same makes.proof)
+
+  -- ---- what the search came to, as a file
+
+  -- what is found may stand in a file
+  pub may_stand : (p : ProvedBy Judgement Reason) → search.outcome_of p ≡ search_of (search_for problem) most depth
+      → search.IsProved (logic_over t) (calculus_of t) problem.goal p → MayStandIn problem p
+  may_stand (searched.Found nodes) e is =
+      let are = found_is nodes.items is e in
+      let some = slice_get_within nodes.items 0 are.proof.root are.proof.is_root in
+      (omega (arith, some), are.few, are.within)
+  may_stand searched.NotFound e is = tt
+  may_stand searched.TooManyDerivations e is = tt
+  may_stand searched.TooManyStates e is = tt
+
+  module _ (f : ProofFile) (nodes : List FileNode) (of_problem : IsFileOf problem nodes f)
+      (is : search.IsFoundProof (logic_over t) (calculus_of t) problem.goal nodes)
+      (are : AreProof t problem.goal nodes) where
+    in_file : IsProof (logic_over (theory f.defs f.program)) problem.goal f.nodes
+    in_file = subst (λ (ns : List FileNode). IsProof (logic_over (theory f.defs f.program)) problem.goal ns)
+        (sym of_problem.nodes)
+        (subst (λ ds. IsProof (logic_over (theory ds f.program)) problem.goal nodes) (sym of_problem.definitions)
+        (subst (λ lines. IsProof (logic_over (theory problem.defs lines)) problem.goal nodes)
+        (sym of_problem.program) are.proof))
+
+    heaps : HasSmallHeaps f.nodes
+    heaps = subst (λ ns. HasSmallHeaps ns) (sym of_problem.nodes) (small_heaps t nodes may.most are.within)
+
+    is_proof : IsProofFor problem f
+    is_proof = record {
+      version = of_problem.version;
+      definitions = of_problem.definitions;
+      program = of_problem.program;
+      tableau = is.tableau;
+      made = ap (λ (ns : List FileNode). replay (calculus_of t) problem.goal (search.reasons_of ns)) of_problem.nodes
+          ∙ is.made;
+      nodes = of_problem.nodes ∙ is.are;
+      root = in_file.root;
+      is_root = in_file.is_root;
+      goal = in_file.proves;
+      correct = in_file.correct;
+      states = in_file.states;
+      holds = root_holds f (program_commands f.program (subst IsProgram (sym of_problem.program) may.program))
+          in_file.correct.nodes heaps in_file.correct.paths;
+    }
+
+  pub is_outcome : (p : ProvedBy Judgement Reason) (q : Proved) → IsOver problem p q
+      → search.outcome_of p ≡ search_of (search_for problem) most depth
+      → outcome_of q ≡ search_of (search_for problem) most depth
+  is_outcome (searched.Found nodes) (Found f) over e =
+      ap (λ (ns : List FileNode). IsFound (search.reasons_of ns)) over.nodes ∙ e
+  is_outcome searched.NotFound NotFound over e = e
+  is_outcome searched.TooManyDerivations TooManyDerivations over e = e
+  is_outcome searched.TooManyStates TooManyStates over e = e
+  is_outcome _ _ over e = absurd over
+
+  pub is_first : (q : Proved) → outcome_of q ≡ search_of (search_for problem) most depth → IsFirst problem depth q
+  is_first (Found f) e = first_found (search_for problem) most 1 depth _ (sym e)
+  is_first NotFound e = tt
+  is_first TooManyDerivations e = tt
+  is_first TooManyStates e = tt
+
+  pub is_proved : (p : ProvedBy Judgement Reason) (q : Proved) → IsOver problem p q
+      → search.outcome_of p ≡ search_of (search_for problem) most depth
+      → search.IsProved (logic_over t) (calculus_of t) problem.goal p → IsProved problem q
+  is_proved (searched.Found nodes) (Found f) over e is = is_proof f nodes.items over is (found_is nodes.items is e)
+  is_proved searched.NotFound NotFound over e is = tt
+  is_proved searched.TooManyDerivations TooManyDerivations over e is = tt
+  is_proved searched.TooManyStates TooManyStates over e is = tt
+  is_proved _ _ over e is = absurd over

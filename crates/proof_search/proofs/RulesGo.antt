@@ -24,7 +24,8 @@ use Rattle.rule_table.specs.ExecTable.{exec_answer}
 use Rattle.rule_table.specs.RuleBook.{variables_of}
 use Rattle.rule_table.specs.Table.{named, unnamed, rewrite_side, rewrite_atom}
 use Rattle.rule_table.specs.Tests.{same_term}
-use Rattle.proof_graph.specs.declared.nodes.GraphNode.{GraphNode}
+use Rattle.cyc_basics.specs.Words.{or_else}
+use Rattle.search_moves.specs.Nodes.{OpenGoal, MadeNode}
 use Rattle.search_moves.specs.Trying.{Theory, has_premises, is_applicable}
 use Rattle.search_moves.specs.Entailments.{side_of, rewrite_at, rewrites, choices, unfolds, pure_rights, cell_frames}
 use Rattle.search_moves.specs.Entailments.{predicate_frames, distincts, equation_instances, field_instances}
@@ -154,13 +155,17 @@ state_before_goes t i a =
     (beside (each_passes (is_applicable t j) (stops (counted_from_one t.lines i)))
     (beside (each_first_placed (HasPremises t j) (state_rewrite p a) a.pure (λ k x e. state_goes t j k p a x e)) tt)))
 
-pub rules_go : (t : Theory) (nodes : List GraphNode) (goal : ℕ) (j : Judgement) → IsUniversalHeap (antecedent j)
-    → Each (HasPremises t j) (rules_offered t nodes goal j)
-rules_go t nodes goal (Entail a bs) u =
-    each_or_else (HasPremises t (Entail a bs)) (rules_before t (Entail a bs)) (rules_after t nodes goal (Entail a bs))
+go_at : (t : Theory) (nodes : List MadeNode) (v : ℕ) (j : Judgement) → IsUniversalHeap (antecedent j)
+    → Each (HasPremises t j) (or_else (rules_before t j) (rules_after t nodes v j))
+go_at t nodes v (Entail a bs) u =
+    each_or_else (HasPremises t (Entail a bs)) (rules_before t (Entail a bs)) (rules_after t nodes v (Entail a bs))
     (entailment_before_goes t a bs u) (entailment_after_goes t (Entail a bs) a bs)
-rules_go t nodes goal (Runs i a) u =
-    each_or_else (HasPremises t (Runs i a)) (rules_before t (Runs i a)) (rules_after t nodes goal (Runs i a))
+go_at t nodes v (Runs i a) u =
+    each_or_else (HasPremises t (Runs i a)) (rules_before t (Runs i a)) (rules_after t nodes v (Runs i a))
     (state_before_goes t i a)
-    (each_passes (is_applicable t (Runs i a)) (folds_if t nodes goal i a
+    (each_passes (is_applicable t (Runs i a)) (folds_if t nodes v i a
     ++ (Exec ∷ unfolds_if (misses_cell (exec_answer t.most t.lines (Runs i a))) a (counted_from_one t.lines i))))
+
+pub rules_go : (t : Theory) (nodes : List MadeNode) (g : OpenGoal) → IsUniversalHeap (antecedent g.premise.judgement)
+    → Each (HasPremises t g.premise.judgement) (rules_offered t nodes g)
+rules_go t nodes g = go_at t nodes g.parent g.premise.judgement

@@ -1,6 +1,6 @@
 -- What a goal within the limits is offered brings in nothing beyond them.
 use Rattle.std.proofs.Common.{ℕ, ◌<◌, List, [], ◌∷◌, ◌++◌, length, Option, Some, None}
-use Rattle.std.specs.Prelude.{take, ◌&&◌}
+use Rattle.std.specs.Prelude.{◌&&◌}
 use Rattle.std.specs.List.{filter, list_any}
 use Rattle.cyc_basics.specs.Limits.{AreLimits}
 use Rattle.cyc_basics.specs.declared.limits.Limits.{Limits}
@@ -13,14 +13,15 @@ use Rattle.heap_formula.specs.Programs.{counted_from_one, program_variables}
 use Rattle.heap_formula.specs.Symbolic.{SymbolicHeap}
 use Rattle.heap_formula.specs.Words.{Each}
 use Rattle.goto_lang.specs.Lines.{IsProgram}
-use Rattle.proof_graph.specs.declared.nodes.GraphNode.{GraphNode}
 use Rattle.rule_table.specs.ExecTable.{exec_answer}
 use Rattle.search_moves.specs.Folds.{folds}
+use Rattle.search_moves.specs.Nodes.{OpenGoal, MadeNode}
 use Rattle.search_moves.specs.Trying.{Theory, is_applicable}
 use Rattle.search_moves.specs.States.{state_side, state_rewrite, state_rewrites, is_stop, stops, wanted_cell, reaches}
 use Rattle.search_moves.specs.States.{unfold_for, misses_cell, unfolds_for, unfolds_if, climbs, works_on, folds_if}
 use Rattle.search_moves.specs.States.{stops_that_go, state_before, state_after}
 use Rattle.search_moves.specs.Offering.{rules_before, rules_after, rules_offered}
+use Rattle.cyc_basics.specs.Words.{or_else}
 use Rattle.rule_book.specs.Limits.{IsDefinitionWithin, IsHeapWithin, IsJudgementWithin, IsRuleWithin}
 use Rattle.proof_search.proofs.Members.{beside, each_if, each_filter, each_or_else, each_first_line, each_anywhere}
 use Rattle.proof_search.proofs.Members.{each_first_place}
@@ -50,32 +51,38 @@ module _ (most : Limits) (ds : List Definition) where
       (beside (each_first_place (IsRuleWithin most ds) (state_rewrite p a) a.pure
       (λ k x. rewrite_within most ds k (state_side p a k x))) tt)))
 
-state_after_within : (t : Theory) (nodes : List GraphNode) (goal : ℕ) (j : Judgement) (i : ℕ) (a : SymbolicHeap)
+state_after_within : (t : Theory) (nodes : List MadeNode) (v : ℕ) (j : Judgement) (i : ℕ) (a : SymbolicHeap)
     → 0 < t.most.spatial → AreLimits t.most → Each (IsDefinitionWithin t.most t.definitions) t.definitions
     → IsHeapWithin t.most t.definitions a
-    → Each (IsRuleWithin t.most t.definitions) (state_after t nodes goal j i a)
-state_after_within t nodes goal j i a some bounded ds w =
+    → Each (IsRuleWithin t.most t.definitions) (state_after t nodes v j i a)
+state_after_within t nodes v j i a some bounded ds w =
     let P = IsRuleWithin t.most t.definitions in
     let missing = misses_cell (exec_answer t.most t.lines j) in
     let wanted = wanted_cell (counted_from_one t.lines i) in
     let last = unfolds_if missing a (counted_from_one t.lines i) in
-    each_filter P (is_applicable t j) (folds_if t nodes goal i a ++ (Exec ∷ last))
-    (each_append P (folds_if t nodes goal i a) (Exec ∷ last)
-    (each_if P (climbs nodes goal goal && list_any (works_on i) (take goal nodes)) (folds a t.definitions)
+    each_filter P (is_applicable t j) (folds_if t nodes v i a ++ (Exec ∷ last))
+    (each_append P (folds_if t nodes v i a) (Exec ∷ last)
+    (each_if P (climbs nodes (length nodes) v && list_any (works_on i) nodes) (folds a t.definitions)
     (folds_within t.most some bounded t.definitions a (small t.most t.definitions a w).low.1 ds))
     (tt, each_if P missing (unfolds_for a wanted) (unfolds_for_within t.most t.definitions a wanted)))
 
 -- ---- either judgement
 
-pub rules_within : (t : Theory) (nodes : List GraphNode) (goal : ℕ) (j : Judgement) → 0 < t.most.spatial
+within_at : (t : Theory) (nodes : List MadeNode) (v : ℕ) (j : Judgement) → 0 < t.most.spatial
     → AreLimits t.most → Each (IsDefinitionWithin t.most t.definitions) t.definitions → IsProgram t.lines
     → IsJudgementWithin t.most t.definitions (length t.lines) j
-    → Each (IsRuleWithin t.most t.definitions) (rules_offered t nodes goal j)
-rules_within t nodes goal (Entail a bs) some bounded ds lines w =
+    → Each (IsRuleWithin t.most t.definitions) (or_else (rules_before t j) (rules_after t nodes v j))
+within_at t nodes v (Entail a bs) some bounded ds lines w =
     each_or_else (IsRuleWithin t.most t.definitions) (rules_before t (Entail a bs))
-    (rules_after t nodes goal (Entail a bs)) (before_within t.most t.definitions t (Entail a bs) a)
+    (rules_after t nodes v (Entail a bs)) (before_within t.most t.definitions t (Entail a bs) a)
     (after_within t.most t.definitions t (Entail a bs) a bs w.heaps.0 w.heaps.1 w.universal)
-rules_within t nodes goal (Runs i a) some bounded ds lines w =
-    each_or_else (IsRuleWithin t.most t.definitions) (rules_before t (Runs i a)) (rules_after t nodes goal (Runs i a))
+within_at t nodes v (Runs i a) some bounded ds lines w =
+    each_or_else (IsRuleWithin t.most t.definitions) (rules_before t (Runs i a)) (rules_after t nodes v (Runs i a))
     (state_before_within t.most t.definitions t (Runs i a) i a)
-    (state_after_within t nodes goal (Runs i a) i a some bounded ds w.heaps.0)
+    (state_after_within t nodes v (Runs i a) i a some bounded ds w.heaps.0)
+
+pub rules_within : (t : Theory) (nodes : List MadeNode) (g : OpenGoal) → 0 < t.most.spatial
+    → AreLimits t.most → Each (IsDefinitionWithin t.most t.definitions) t.definitions → IsProgram t.lines
+    → IsJudgementWithin t.most t.definitions (length t.lines) g.premise.judgement
+    → Each (IsRuleWithin t.most t.definitions) (rules_offered t nodes g)
+rules_within t nodes g = within_at t nodes g.parent g.premise.judgement

@@ -23,13 +23,13 @@ use Rattle.search_moves.specs.Trying.{Theory}
 use Rattle.derivations.specs.Tableau.{Subgoal, Tableau}
 use Rattle.derivations.specs.Nodes.{MayStand}
 use Rattle.derivations.proofs.Made.{AllLead}
-use Rattle.derivations.specs.LogicNodes.{numbers_by, proof_nodes}
+use Rattle.derivations.specs.LogicNodes.{numbers_by}
 use Rattle.derivations.proofs.LogicMade.{IsBy, AreNodes}
 use Rattle.derivations.proofs.LogicRows.{row_of}
-use Rattle.proof_search.specs.Calculus.{MadeNode, judgement_of}
-use Rattle.proof_search.specs.Found.{IsWithinLimits}
-use Rattle.proof_search.proofs.Fair.{Occurs, Allows}
-use Rattle.proof_search.proofs.SearchLogic.{logic}
+use Rattle.search_moves.specs.Nodes.{MadeNode, judgement_of}
+use Rattle.proof_search.specs.Calculus.{logic_over}
+use Rattle.proof_search.specs.Found.{nodes_made}
+use Rattle.proof_search.specs.Problems.{IsWithinLimits, MayGive}
 
 targets_short : (nodes : List MadeNode) (v : ℕ) (ps : List (Subgoal Judgement)) (es : List Edge) →
     length nodes ≤ 20000 → AllLead nodes v ps es → Each IsShortNumber (map (λ (e : Edge). e.target) es)
@@ -50,38 +50,37 @@ no_fault : (o : Option RuleFault) (premise : Premise) (pairs : List Pair) → pa
 no_fault None premise pairs e = refl
 no_fault (Some f) premise pairs e = cc
 
-module _ (t : Theory) (goal : Judgement) (limits : IsWithinLimits t goal) (b : Tableau Judgement Reason)
-    (all' : AreNodes (logic t) b) (few : length b.nodes ≤ 20000) where
-  reason_short : (v : ℕ) (j : Judgement) (r : Reason) (es : List Edge) → Occurs t j
-      → IsBy (logic t) b.nodes v j r (target_of r) es →
+module _ (t : Theory) (b : Tableau Judgement Reason) (all' : AreNodes (logic_over t) b) (few : length b.nodes ≤ 20000) where
+  reason_short : (v : ℕ) (j : Judgement) (r : Reason) (es : List Edge) → IsWithinLimits t j
+      → IsBy (logic_over t) b.nodes v j r (target_of r) es →
       HasShortNumbers r
   reason_short v j (Step rule) es within by =
       let a = answer_of (rule_answer t.most t.definitions t.lines j rule) by.premises by.is_answer in
-      rule_short t.most limits.most t.definitions t.lines j a.0 limits.definitions within rule a.1
+      rule_short t.most within.most t.definitions t.lines j a.0 within.definitions within.goal_within rule a.1
   reason_short v j (Back link) es within by =
       let less = slice_get_within b.nodes link.target by.companion by.is_companion in
       let k = judgement_of by.companion in
       let none = no_fault (link_fault j k link (variables_of t.lines j)) (link_premise k link) by.pairs by.is in
-      link_short t.most t.definitions (length t.lines) (variables_of t.lines j) j k link limits.most within none
+      link_short t.most t.definitions (length t.lines) (variables_of t.lines j) j k link within.most within.goal_within none
       (omega arith)
 
   numbers_short : (v : ℕ) (j : Judgement) (r : Reason) (o : Option ℕ) (es : List Edge)
-      → IsBy (logic t) b.nodes v j r o es →
+      → IsBy (logic_over t) b.nodes v j r o es →
       Each IsShortNumber (numbers_by o es)
   numbers_short v j r None es by = targets_short b.nodes v by.premises es few by.edges
   numbers_short v j r (Some target) es by = tt
 
-  pub all_within : MayStand (Occurs t) (Allows t) b →
-      Each (IsNodeWithin t.most t.definitions (length t.lines)) (proof_nodes target_of b)
-  all_within stand = each_from (IsNodeWithin t.most t.definitions (length t.lines)) (proof_nodes target_of b) each
+  pub all_within : MayStand (IsWithinLimits t) (MayGive t) b →
+      Each (IsNodeWithin t.most t.definitions (length t.lines)) (nodes_made b)
+  all_within stand = each_from (IsNodeWithin t.most t.definitions (length t.lines)) (nodes_made b) each
     where
-      each : (v : ℕ) (x : FileNode) → slice_get (proof_nodes target_of b) v ≡ Some x →
+      each : (v : ℕ) (x : FileNode) → slice_get (nodes_made b) v ≡ Some x →
           IsNodeWithin t.most t.definitions (length t.lines) x
       each v x at =
-          let f = row_of (logic t) b all' v x at in
+          let f = row_of (logic_over t) b all' v x at in
           let s = stand v f.m f.is_m in
           subst (IsNodeWithin t.most t.definitions (length t.lines)) f.is (record {
-            judgement = s.0;
+            judgement = s.0.goal_within;
             reason = s.1;
             numbers = reason_short v (judgement_of f.m) f.m.reason f.made.traces.edges s.0 f.made.by;
             premises = numbers_short v (judgement_of f.m) f.m.reason (target_of f.m.reason)

@@ -1,85 +1,38 @@
--- The rules and links of separation logic as a calculus, without its offers.
-use Rattle.std.specs.Prelude.{List, [], ◌∷◌, map, Option, Some, None, Ok, Err, slice_get}
+-- Separation logic over definitions and a program as a calculus, with what a goal is offered.
+use Rattle.std.specs.Prelude.{ℕ, List, map}
+use Rattle.cyc_basics.specs.declared.limits.TheConstants.{MOST_NODES}
 use Rattle.heap_formula.specs.declared.judgements.Judgement.{Judgement}
-use Rattle.heap_formula.specs.declared.judgements.Premise.{Premise}
-use Rattle.heap_formula.specs.declared.judgements.Pair.{Pair}
-use Rattle.heap_formula.specs.declared.proof_rules.Link.{Link}
 use Rattle.heap_formula.specs.declared.proof_rules.Reason.{Reason}
 use Rattle.heap_formula.specs.declared.proof_rules.Reason.TheVariants.{Step, Back}
 use Rattle.heap_formula.specs.declared.proof_rules.RuleFault.{RuleFault}
-use Rattle.rule_table.specs.Answer.{Answer}
-use Rattle.rule_table.specs.LinkTable.{link_fault, link_premise}
-use Rattle.rule_table.specs.RuleBook.{variables_of, rule_answer}
-use Rattle.trace_pairs.specs.Graph.{Edge}
-use Rattle.proof_graph.specs.Traces.{positions_of, trace_edge}
-pub use Rattle.rule_book.specs.SeparationLogic.{traced}
+use Rattle.buchi_inclusion.specs.Answers.{state_limit}
+use Rattle.logics.specs.Logics.{LogicValue}
+use Rattle.rule_book.specs.SeparationLogic.{separation_logic}
+use Rattle.derivations.specs.Calculus.{calculus_with}
+use Rattle.derivations.specs.Search.{system_of}
+use Rattle.derivations.specs.System.{System}
+use Rattle.derivations.specs.Tableau.{Calculus}
+use Rattle.search_moves.specs.Nodes.{OpenGoal, MadeNode}
+use Rattle.search_moves.specs.Offering.{links_offered, rules_offered}
 use Rattle.search_moves.specs.Trying.{Theory}
-use Rattle.derivations.specs.Tableau.{Subgoal, Goal, Made, Calculus}
 
--- a goal that is open
-abbrev pub OpenGoal : Type 0
-OpenGoal = Goal Judgement
+abbrev pub logic_over : Theory → LogicValue Judgement Reason RuleFault
+logic_over t = separation_logic t.most t.definitions t.lines
 
--- a node that is made
-abbrev pub MadeNode : Type 0
-MadeNode = Made Judgement Reason
+-- the links to be tried, and the rules for the case that none of them is admitted
+abbrev pub links_at : Theory → List MadeNode → OpenGoal → List Reason
+links_at t nodes g = map Back (links_offered t nodes g)
 
-abbrev pub judgement_of : MadeNode → Judgement
-judgement_of m = m.goal.premise.judgement
+abbrev pub rules_at : Theory → List MadeNode → OpenGoal → List Reason
+rules_at t nodes g = map Step (rules_offered t nodes g)
 
--- ---- rules
+abbrev pub calculus_of : Theory → Calculus Judgement Reason
+calculus_of t = calculus_with (logic_over t) (links_at t) (rules_at t)
 
--- none at a fault
-abbrev pub answered : Answer → Option (List (Subgoal Judgement))
-answered (Ok ps) = Some (map traced ps)
-answered (Err f) = None
+-- the greatest number of nodes of a derivation
+abbrev pub node_limit : ℕ
+node_limit = MOST_NODES
 
--- ---- links
-
--- the edge of a link without a fault to this companion
-abbrev pub edge_unless : Option RuleFault → Judgement → Link → Option Edge
-edge_unless None companion link = Some (trace_edge link.target (link_premise companion link).pairs)
-edge_unless (Some f) companion link = None
-
-abbrev pub edge_to : Theory → Judgement → Link → Option MadeNode → Option Edge
-edge_to t bud link None = None
-edge_to t bud link (Some m) = edge_unless (link_fault bud (judgement_of m) link (variables_of t.lines bud))
-    (judgement_of m) link
-
--- where a link without a fault leads to: one of the nodes made
-abbrev pub back : Theory → List MadeNode → OpenGoal → Reason → Option Edge
-back t nodes g (Step rule) = None
-back t nodes g (Back link) = edge_to t g.premise.judgement link (slice_get nodes link.target)
-
--- a link without a fault has no premises
-abbrev pub none_beside : Option Edge → Option (List (Subgoal Judgement))
-none_beside None = None
-none_beside (Some e) = Some []
-
-abbrev pub premises : Theory → List MadeNode → OpenGoal → Reason → Option (List (Subgoal Judgement))
-premises t nodes g (Step rule) = answered (rule_answer t.most t.definitions t.lines g.premise.judgement rule)
-premises t nodes g (Back link) = none_beside (edge_to t g.premise.judgement link (slice_get nodes link.target))
-
--- the calculus in which nothing is offered
-abbrev pub bare_calculus : Theory → Calculus Judgement Reason
-bare_calculus t = record {
-  positions = positions_of;
-  links = λ nodes g. [];
-  rules = λ nodes g. [];
-  premises = premises t;
-  back = back t;
-}
-
--- ---- the pairs of a reason's premises, as the graph has them
-
-abbrev pub answer_pairs : Answer → List (List Pair)
-answer_pairs (Ok ps) = map (λ (p : Premise). p.pairs) ps
-answer_pairs (Err f) = []
-
-abbrev pub link_pairs : Link → Option MadeNode → List (List Pair)
-link_pairs link None = []
-link_pairs link (Some m) = (link_premise (judgement_of m) link).pairs ∷ []
-
-abbrev pub pairs_of : Theory → List MadeNode → Judgement → Reason → List (List Pair)
-pairs_of t nodes j (Step rule) = answer_pairs (rule_answer t.most t.definitions t.lines j rule)
-pairs_of t nodes j (Back link) = link_pairs link (slice_get nodes link.target)
+-- the search for a proof of the judgement
+abbrev pub search_system : Theory → Judgement → System Reason
+search_system t j = system_of (calculus_of t) node_limit state_limit j

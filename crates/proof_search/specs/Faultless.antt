@@ -5,7 +5,7 @@ use Rattle.heap_formula.specs.declared.proof_rules.Link.{Link}
 use Rattle.heap_formula.specs.declared.proof_rules.Rule.{Rule}
 use Rattle.rule_table.specs.LinkTable.{link_fault}
 use Rattle.rule_table.specs.RuleBook.{variables_of}
-use Rattle.proof_graph.specs.declared.nodes.GraphNode.{GraphNode}
+use Rattle.search_moves.specs.Nodes.{MadeNode, judgement_of}
 use Rattle.search_moves.specs.Trying.{Theory, is_applicable}
 
 -- the rule has premises at the judgement
@@ -13,7 +13,7 @@ abbrev pub HasPremises : Theory → Judgement → Rule → Type 0
 HasPremises t j rule = is_applicable t j rule ≡ true
 
 -- the link leads from the judgement to one of the nodes, and has no fault there
-abbrev pub IsLinked : Theory → List GraphNode → Judgement → Link → Type 0
+abbrev pub IsLinked : Theory → List MadeNode → Judgement → Link → Type 0
 IsLinked t nodes j link =
-    (node : GraphNode) × (slice_get nodes link.target ≡ Some node)
-    × (link_fault j node.judgement link (variables_of t.lines j) ≡ None)
+    (node : MadeNode) × (slice_get nodes link.target ≡ Some node)
+    × (link_fault j (judgement_of node) link (variables_of t.lines j) ≡ None)

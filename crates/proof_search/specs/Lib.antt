@@ -1,12 +1,6 @@
 pub mod Calculus
-pub mod Graphs
 pub mod Problems
-pub mod Search
-pub mod Effects
-pub mod Derivations
-pub mod Leaving
-pub mod Files
-pub mod Found
 pub mod Faultless
-pub mod Results
+pub mod Found
 pub mod Outcomes
+pub mod Moves

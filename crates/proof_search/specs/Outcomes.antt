@@ -1,5 +1,6 @@
 -- What the answers of the prover say.
-use Rattle.std.specs.Prelude.{◌≡◌, ℕ, List, map, Some, slice_get}
+use Rattle.std.specs.Prelude.{◌≡◌, ◌<◌, ◌≤◌, ℕ, List, length, map, Some, slice_get}
+use Rattle.cyc_basics.specs.declared.limits.TheConstants.{MOST_NODES}
 use Rattle.heap_formula.specs.declared.proof_rules.Reason.{Reason}
 use Rattle.derivations.specs.System.{System, Outcome, IsFound, IsNotFound, HasTooManyDerivations, HasTooManyStates}
 use Rattle.derivations.specs.Firsts.{FirstFound}
@@ -7,14 +8,17 @@ use Rattle.buchi_inclusion.specs.Answers.{HasAtMost}
 use Rattle.formula_reader.specs.declared.problem.Problem.{Problem}
 use Rattle.proof_file.specs.declared.file.ProofFile.{ProofFile}
 use Rattle.proof_file.specs.FileNodes.{FileNode}
+use Rattle.formula_reader.specs.Nodes.{IsNodeWithin}
+use Rattle.heap_formula.specs.Words.{Each}
 use Rattle.proof_check.specs.Verdicts.{file_graph, state_limit, IsCorrect, RootHolds}
 use Rattle.search_moves.specs.Settings.{theory}
 use Rattle.search_moves.specs.Trying.{Theory}
 use Rattle.heap_formula.specs.declared.judgements.Judgement.{Judgement}
 use Rattle.derivations.specs.Tableau.{Tableau, replay}
-use Rattle.proof_search.specs.Calculus.{MadeNode}
-use Rattle.proof_search.specs.Search.{calculus_of, search_system}
-use Rattle.proof_search.specs.Files.{nodes_made}
+use Rattle.derivations.specs.declared.found.searching.Proved.{Proved as ProvedBy}
+use Rattle.derivations.specs.declared.found.searching.Proved.TheVariants as searched
+use Rattle.proof_search.specs.Calculus.{calculus_of, search_system}
+use Rattle.proof_search.specs.Found.{nodes_made}
 use Rattle.proof_search.specs.declared.prover.Proved.{Proved}
 use Rattle.proof_search.specs.declared.prover.Proved.TheVariants.{Found, NotFound, TooManyDerivations, TooManyStates}
 
@@ -25,10 +29,6 @@ theory_for problem = theory problem.defs problem.program
 -- the search for a proof of a problem's goal
 abbrev pub search_for : Problem → System Reason
 search_for problem = search_system (theory_for problem) problem.goal
-
--- the nodes of a file that nodes made for the problem are
-abbrev pub nodes_for : Problem → List MadeNode → List FileNode
-nodes_for problem nodes = nodes_made (theory_for problem) nodes
 
 -- the reasons of a file's nodes
 abbrev pub reasons_of : ProofFile → List Reason
@@ -48,7 +48,7 @@ pub record IsProofFor (problem : Problem) (f : ProofFile) : Type 0 where
   pub program : f.program ≡ problem.program
   pub tableau : Tableau Judgement Reason
   pub made : replay (calculus_of (theory_for problem)) problem.goal (reasons_of f) ≡ Some tableau
-  pub nodes : f.nodes ≡ nodes_for problem tableau.nodes
+  pub nodes : f.nodes ≡ nodes_made tableau
   pub root : FileNode
   pub is_root : slice_get f.nodes 0 ≡ Some root
   pub goal : root.judgement ≡ problem.goal
@@ -69,3 +69,23 @@ IsFirst problem depth (Found f) = FirstFound (search_for problem) 1 depth (reaso
 IsFirst problem depth NotFound = Unit {0}
 IsFirst problem depth TooManyDerivations = Unit {0}
 IsFirst problem depth TooManyStates = Unit {0}
+
+-- what a search came to, with its nodes as a file of the problem
+pub record IsFileOf (problem : Problem) (found : List FileNode) (f : ProofFile) : Type 0 where
+  pub version : f.version ≡ problem.version
+  pub definitions : f.defs ≡ problem.defs
+  pub program : f.program ≡ problem.program
+  pub nodes : f.nodes ≡ found
+
+abbrev pub IsOver : Problem → ProvedBy Judgement Reason → Proved → Type 0
+IsOver problem (searched.Found nodes) (Found f) = IsFileOf problem nodes.items f
+IsOver problem searched.NotFound NotFound = Unit {0}
+IsOver problem searched.TooManyDerivations TooManyDerivations = Unit {0}
+IsOver problem searched.TooManyStates TooManyStates = Unit {0}
+IsOver problem _ _ = ⊥
+
+-- the nodes that were found may stand in a file of the problem
+abbrev pub MayStandIn : Problem → ProvedBy Judgement Reason → Type 0
+MayStandIn problem (searched.Found nodes) = (0 < length nodes.items) × (length nodes.items ≤ MOST_NODES)
+    × Each (IsNodeWithin problem.defs.most problem.defs.list (length problem.program)) nodes.items
+MayStandIn problem _ = Unit {0}

@@ -1,20 +1,21 @@
--- Problems whose lists are short.
-use Rattle.std.specs.Prelude.{◌≤◌, List, length}
+-- Problems within the limits of a proof file.
+use Rattle.std.specs.Prelude.{◌<◌, length}
 use Rattle.cyc_basics.specs.Limits.{AreLimits}
-use Rattle.cyc_basics.specs.declared.limits.TheConstants.{MOST_CASES}
 use Rattle.heap_formula.specs.declared.judgements.Judgement.{Judgement}
-use Rattle.heap_formula.specs.Definitions.{Definition}
-use Rattle.heap_formula.specs.Judgements.{antecedent}
+use Rattle.heap_formula.specs.declared.proof_rules.Reason.{Reason}
 use Rattle.heap_formula.specs.Words.{Each}
+use Rattle.goto_lang.specs.Lines.{IsProgram}
+use Rattle.rule_book.specs.Limits.{IsDefinitionWithin, IsJudgementWithin, IsReasonWithin}
 use Rattle.search_moves.specs.Trying.{Theory}
 
--- each definition has no more cases than any version of the formats allows
-abbrev pub HaveFewCases : List Definition → Type 0
-HaveFewCases ds = Each (λ (d : Definition). length d.cases ≤ MOST_CASES) ds
-
--- the limits are those that some version may have, the judgement's antecedent keeps them, and definitions have few
--- cases
-pub record IsSmallProblem (t : Theory) (j : Judgement) : Type 0 where
+-- the theory, and a judgement over it, are within the limits of a proof file
+pub record IsWithinLimits (t : Theory) (goal : Judgement) : Type 0 where
+  pub some : 0 < t.most.spatial
   pub most : AreLimits t.most
-  pub cases : HaveFewCases t.definitions
-  pub short : length (antecedent j).spatial ≤ t.most.spatial
+  pub definitions : Each (IsDefinitionWithin t.most t.definitions) t.definitions
+  pub program : IsProgram t.lines
+  pub goal_within : IsJudgementWithin t.most t.definitions (length t.lines) goal
+
+-- a reason brings in nothing beyond the limits
+abbrev pub MayGive : Theory → Reason → Type 0
+MayGive t r = IsReasonWithin t.most t.definitions r

@@ -4,10 +4,10 @@
 
 pub mod calculus;
 pub mod files;
-mod found;
-pub mod moves;
+mod logic;
 mod offering;
 mod prover;
+mod rules;
 
 pub use cyc_basics::memory::OutOfMemory;
 pub use offering::offers;

@@ -1,6 +1,6 @@
 // What a goal of a problem's partial derivation is offered.
 ghost use Rattle.std.specs.Prelude.{◌<◌, length, IfOk};
-ghost use Rattle.search_moves.specs.Offering.{OffersLinks, OffersRules};
+ghost use Rattle.search_moves.specs.Graphs.{OffersLinks, OffersRules};
 ghost use Rattle.proof_search.specs.Outcomes.{theory_for};
 
 use cyc_basics::memory::OutOfMemory;
@@ -11,7 +11,8 @@ use search_moves::Offers;
 use std::alloc::Global;
 
 /// What the goal, a node without a reason, is offered in the partial derivation of the problem's goal that the graph
-/// holds: the links that are to be tried, and the rules for the case that none of them is admitted, in order.
+/// holds: the links that are to be tried, and the rules for the case that none of them is admitted, in order. The
+/// search keeps no such graph: it asks the same of the nodes that it has made.
 pub fn offers(
     alloc: Global,
     problem: &Problem,

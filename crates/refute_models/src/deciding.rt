@@ -1,7 +1,7 @@
 // Whether a formula holds in a model, under the least meaning of any definitions: for each predicate with values the
 // sets of cells of which it holds, as a least fixed point over the questions that come up.
 use crate::cell_sets::CellSet;
-use crate::parts::{Part, keep_part};
+use crate::parts::{Part, keep_part, least_part};
 use crate::solving::{Asked, Next, Way};
 use cyc_basics::memory::OutOfMemory;
 use heap_formula::Heap;
@@ -10,6 +10,9 @@ use pred_defs::Defs;
 use refute_unfoldings::Model;
 use std::alloc::Global;
 use std::collections::BTreeSet;
+
+/// The most work on one model.
+pub const MODEL_WORK: u32 = 200_000;
 
 /// The most parts that are kept of a question.
 const MOST_PARTS: usize = 3_000;
@@ -234,18 +237,22 @@ impl<'a> Decider<'a> {
         Ok(())
     }
 
-    /// Whether the formula holds of the whole heap.
-    pub fn decide(&mut self, heap: &Heap) -> Result<Decision, OutOfMemory> {
+    /// Whether the formula holds of these cells, or of any: with the fewest pairs of those that are found.
+    fn decide_of(
+        &mut self,
+        heap: &Heap,
+        wanted: Option<CellSet>,
+    ) -> Result<Decision, OutOfMemory> {
         let model = self.model;
         let asked = Asked {
             model,
             heap,
             values: &model.stack,
-            wanted: Some(CellSet::up_to(model.cells.len() as u64)),
+            wanted,
         };
         for _ in 0..self.most {
-            let mut found = self.parts(&asked, None)?;
-            if let Some(part) = found.pop() {
+            let found = self.parts(&asked, None)?;
+            if let Some(part) = least_part(found) {
                 return Ok(Decision::Holds(part.apart));
             }
             if self.is_over() {
@@ -257,6 +264,17 @@ impl<'a> Decider<'a> {
             self.close()?;
         }
         Ok(Decision::Unknown)
+    }
+
+    /// Whether the formula holds of the whole heap.
+    pub fn decide(&mut self, heap: &Heap) -> Result<Decision, OutOfMemory> {
+        let whole = CellSet::up_to(self.model.cells.len() as u64);
+        self.decide_of(heap, Some(whole))
+    }
+
+    /// Whether the formula holds of some part of the heap.
+    pub fn decide_part(&mut self, heap: &Heap) -> Result<Decision, OutOfMemory> {
+        self.decide_of(heap, None)
     }
 }
 

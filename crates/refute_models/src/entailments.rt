@@ -1,5 +1,5 @@
 // The search for a counter-model of an entailment.
-use crate::deciding::{Decider, Decision};
+use crate::deciding::{Decider, Decision, MODEL_WORK};
 use crate::inquiries::{Inquiry, Look, Verdict};
 use crate::searching::Search;
 use cyc_basics::memory::OutOfMemory;
@@ -7,9 +7,6 @@ use heap_formula::{Heap, bound_of_heap};
 use pred_defs::Defs;
 use refute_unfoldings::Model;
 use std::alloc::Global;
-
-/// The most work on one model.
-const MODEL_WORK: u32 = 200_000;
 
 /// The disjuncts of which none is to hold.
 #[derive(Clone, Copy)]

@@ -42,3 +42,18 @@ pub fn keep_part(parts: &mut Vec<Part>, part: Part) -> Result<bool, OutOfMemory>
     }
     Ok(false)
 }
+
+/// The part with the fewest pairs.
+pub fn least_part(parts: Vec<Part>) -> Option<Part> {
+    let mut least: Option<Part> = None;
+    for part in parts {
+        let is_less = match &least {
+            Some(other) => part.apart.len() < other.apart.len(),
+            None => true,
+        };
+        if is_less {
+            least = Some(part);
+        }
+    }
+    least
+}

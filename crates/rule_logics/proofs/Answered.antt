@@ -19,8 +19,8 @@ use Rattle.cyc_runs.specs.declared.endings.Status.TheVariants as status
 use Rattle.cyc_runs.proofs.WaysToEnd.{fault_fails}
 use Rattle.derivations.specs.declared.search.TheConstants.{DERIVATION_LIMIT}
 use Rattle.derivations.specs.System.{Outcome, search_of, IsFound, IsNotFound, HasTooManyDerivations, HasTooManyStates}
-use Rattle.logic_search.specs.declared.Proved.{Proved}
-use Rattle.logic_search.specs.Outcomes.{outcome_of}
+use Rattle.derivations.specs.declared.found.searching.Proved.{Proved}
+use Rattle.derivations.specs.Outcomes.{outcome_of}
 use Rattle.logics.specs.declared.node.ProofNode.{ProofNode}
 use Rattle.logics.specs.declared.verdict.Verdict.{Verdict}
 use Rattle.logics.specs.declared.verdict.Verdict.TheVariants.{Accepted, RuleRefused, PathRefused, TooManyStates}

@@ -6,8 +6,8 @@ use Rattle.derivations.specs.Firsts.{IsIn}
 use Rattle.derivations.specs.System.{search_of}
 use Rattle.derivations.specs.declared.derivation.Derivation.{Derivation}
 use Rattle.derivations.specs.Derivations.{about, search_in}
-use Rattle.logic_search.specs.declared.Proved.{Proved}
-use Rattle.logic_search.specs.Outcomes.{outcome_of, IsProved}
+use Rattle.derivations.specs.declared.found.searching.Proved.{Proved}
+use Rattle.derivations.specs.Outcomes.{outcome_of, IsProved}
 use Rattle.derivations.specs.Fair.{IsFair}
 use Rattle.derivations.specs.Tableau.{Goal, Made}
 use Rattle.derivations.specs.Search.{system_of}
@@ -33,7 +33,7 @@ module _ {J R F : Type 0} (c : RuleValue J R F) where
   suits : Suits (logic_by c) (λ j. Unit {0}) (λ j r. Unit {0}) links_at (rules_at c) (λ j. Unit {0}) (λ r. Unit {0})
   suits = record {
     stands = λ j o. tt;
-    given = λ j r o. tt;
+    given = λ j r occurs o. tt;
     positions = λ j o. positions_set (c.follows j);
     premises = λ j r ps o a e k p at. tt;
     offers = λ nodes g r o is. tt;

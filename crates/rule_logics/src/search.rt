@@ -2,7 +2,7 @@
 ghost use Rattle.std.specs.Prelude.{◌≡◌, ◌<◌, [], length, map, IfOk};
 ghost use Rattle.derivations.specs.System.{search_of};
 ghost use Rattle.derivations.specs.Derivations.{about, reasons_in, IsInOrder};
-ghost use Rattle.logic_search.specs.Outcomes.{outcome_of, IsProved};
+ghost use Rattle.derivations.specs.Outcomes.{outcome_of, IsProved};
 ghost use Rattle.rule_logics.specs.declared.reasons.Reason.TheVariants.{Rule};
 ghost use Rattle.rule_logics.specs.Logic.{logic_by};
 ghost use Rattle.rule_logics.specs.Searches.{links_from, calculus_by, search_by};
@@ -15,7 +15,7 @@ use derivations::found::effect_of;
 use derivations::search::{DERIVATION_LIMIT, Offers};
 use derivations::tableaux::{MadeNode, OpenGoal, Rules};
 use derivations::{Derivation, Effect, Logic, Strategy};
-use logic_search::{Proved, search_proof};
+use derivations::found::{Proved, search_proof};
 use std::alloc::Global;
 use std::collections::VecDeque;
 

@@ -1,17 +1,13 @@
--- The nodes before a goal, one after another.
-use Rattle.std.proofs.Common.{◌≡◌, ℕ, zero, suc, ◌+◌, add-one, ◌<◌, true, false, ◌&&◌, List, [], ◌∷◌, ◌++◌, length}
+-- The nodes of a graph before a goal, one after another.
+use Rattle.std.proofs.Common.{◌≡◌, ℕ, zero, suc, ◌+◌, ◌-◌, add-one, ◌<◌, Bool, List, [], ◌∷◌, ◌++◌, length}
 use Rattle.std.proofs.Common.{append_assoc, Some, None, slice_get, take, drop, arith, sym, refl, ap, ◌∙◌}
-use Rattle.std.specs.List.{list_any}
-use Rattle.std.specs.Prelude.{option_map}
-use Rattle.std.specs.Option.{option_copied}
-use Rattle.search_moves.specs.Places.{each_from}
-use Rattle.proof_graph.specs.declared.nodes.GraphNode.{GraphNode}
-use Rattle.proof_graph.specs.declared.graph_nodes.NodeView.{NodeView}
-use Rattle.proof_graph.specs.HeapViews.{judgement_of}
-use Rattle.proof_graph.specs.NodeViews.{IsViewed}
-use Rattle.proof_graph.specs.ReasonViews.{reason_of}
-use Rattle.search_moves.specs.States.{has_rule, is_work, is_on_line, works_on}
+use Rattle.std.proofs.Common.{if◌then◌else◌}
 use Rattle.cyc_basics.proofs.Places.{get_within}
+use Rattle.proof_graph.specs.declared.graph_nodes.NodeView.{NodeView}
+use Rattle.proof_graph.specs.declared.nodes.GraphNode.{GraphNode}
+use Rattle.proof_graph.specs.NodeViews.{IsViewed}
+use Rattle.search_moves.specs.Graphs.{fills, parent_among}
+use Rattle.search_moves.specs.Places.{each_from}
 
 lower : {X : Type 0} (xs : List X) (n v : ℕ) (x : X) → v < n → slice_get xs v ≡ Some x
     → drop v (take n xs) ≡ x ∷ drop (suc v) (take n xs)
@@ -19,40 +15,6 @@ lower [] n v x l at = absurd (let e : None ≡ Some x = at in cc)
 lower (y ∷ ys) zero v x l at = absurd (omega arith)
 lower (y ∷ ys) (suc n) zero x l at = let e : Some y ≡ Some x = at in let e' : y ≡ x = cc in ap (λ z. z ∷ take n ys) e'
 lower (y ∷ ys) (suc n) (suc v) x l at = lower ys n v x (omega arith) at
-
-pub lower_next : {X : Type 0} (xs : List X) (n v : ℕ) (x : X) → v < n → slice_get xs v ≡ Some x
-    → drop v (take n xs) ≡ x ∷ drop (v + 1) (take n xs)
-lower_next xs n v x l at = rw (add-one) (lower xs n v x l at)
-
--- what is tested of a node's parts is tested of the node
-works_same : (i : ℕ) (nodes : List GraphNode) (v : ℕ) (view : NodeView) (seen : IsViewed nodes v view)
-    → (is_on_line i (judgement_of view.judgement.now) && has_rule is_work
-    (option_map reason_of (option_copied view.reason))) ≡ works_on i seen.node
-works_same i nodes v view seen = λ k. is_on_line i (seen.judgement k) && has_rule is_work (seen.reason k)
-
-pub works_now : (i : ℕ) (nodes : List GraphNode) (n v : ℕ) (view : NodeView) → v < n → IsViewed nodes v view
-    → (is_on_line i (judgement_of view.judgement.now) && has_rule is_work
-    (option_map reason_of (option_copied view.reason))) ≡ true → list_any (works_on i) (drop v (take n nodes)) ≡ true
-works_now i nodes n v view l seen is =
-    let here : works_on i seen.node ≡ true = sym (works_same i nodes v view seen) ∙ is in
-    rw (lower_next nodes n v seen.node l seen.is_node, here) refl
-
-pub works_later : (i : ℕ) (nodes : List GraphNode) (n v : ℕ) (view : NodeView) → v < n → IsViewed nodes v view
-    → (is_on_line i (judgement_of view.judgement.now) && has_rule is_work
-    (option_map reason_of (option_copied view.reason))) ≡ false
-    → list_any (works_on i) (drop v (take n nodes)) ≡ list_any (works_on i) (drop (v + 1) (take n nodes))
-works_later i nodes n v view l seen is =
-    let here : works_on i seen.node ≡ false = sym (works_same i nodes v view seen) ∙ is in
-    rw (lower_next nodes n v seen.node l seen.is_node, here) refl
-
--- what is seen of a node is seen of the node that stands there
-pub is_seen : (nodes : List GraphNode) (v : ℕ) (view : NodeView) (node : GraphNode) → IsViewed nodes v view
-    → slice_get nodes v ≡ Some node → (judgement_of view.judgement.now ≡ node.judgement)
-    × (option_map reason_of (option_copied view.reason) ≡ node.reason)
-is_seen nodes v view node seen at =
-    let e : Some seen.node ≡ Some node = sym seen.is_node ∙ at in
-    let same : seen.node ≡ node = cc in
-    (seen.judgement ∙ ap (λ (n : GraphNode). n.judgement) same, seen.reason ∙ ap (λ (n : GraphNode). n.reason) same)
 
 -- what the node at place v gives is given
 pub lower_given : {X Y : Type 0} (f : ℕ → X → List Y) (xs : List X) (n v : ℕ) (items items' all : List Y) → v < n
@@ -64,3 +26,25 @@ lower_given f xs n v items items' all l m given so_far =
     let cut : drop v (take n xs) ≡ there.0 ∷ drop (suc v) (take n xs) = lower xs n v there.0 l there.1 in
     let before : items ++ (f v there.0 ++ rest) ≡ all = rw cut at so_far in
     rw (add-one, given there.0 there.1, append_assoc items (f v there.0) rest) before
+
+-- as many as there are members
+pub one_each : {X Y : Type 0} (f : ℕ → X → Y) (k : ℕ) (xs : List X)
+    → length (each_from (λ v x. f v x ∷ []) k xs) ≡ length xs
+one_each f k [] = refl
+one_each f k (x ∷ xs) = ap suc (one_each f (suc k) xs)
+
+-- ---- the node above
+
+last_one : (n : ℕ) → 0 < n → n ≡ suc (n - 1)
+last_one n h = omega arith
+
+above_by : (nodes : List GraphNode) (n v : ℕ) (node : GraphNode) (b : Bool) → slice_get nodes n ≡ Some node
+    → fills v node.premises ≡ b → parent_among nodes (suc n) v ≡ (if b then n else parent_among nodes n v)
+above_by nodes n v node b at is = rw (at, is) refl
+
+-- whether node v proves a premise of node n - 1 tells whether that is above it
+pub above : (nodes : List GraphNode) (n v : ℕ) (view : NodeView) (b : Bool) → 0 < n → IsViewed nodes (n - 1) view
+    → fills v view.premises.now ≡ b → parent_among nodes n v ≡ (if b then n - 1 else parent_among nodes (n - 1) v)
+above nodes n v view b some seen is =
+    ap (λ k. parent_among nodes k v) (last_one n some)
+    ∙ above_by nodes (n - 1) v seen.node b seen.is_node (ap (fills v) (sym seen.premises) ∙ is)

@@ -10,8 +10,7 @@ use Rattle.heap_formula.specs.declared.judgements.Judgement.TheVariants.{Entail,
 use Rattle.heap_formula.specs.declared.proof_rules.Rule.{Rule}
 use Rattle.heap_formula.specs.declared.proof_rules.Rule.TheVariants.{Absurd, Done}
 use Rattle.rule_table.specs.Table.{are_empty}
-use Rattle.proof_graph.specs.declared.nodes.GraphNode.{GraphNode}
-use Rattle.proof_graph.specs.Nodes.{HasJudgement}
+use Rattle.search_moves.specs.Nodes.{OpenGoal, MadeNode}
 use Rattle.heap_formula.specs.Programs.{program_variables}
 use Rattle.search_moves.specs.Places.{first_line}
 use Rattle.cyc_basics.specs.Words.{or_else}
@@ -50,16 +49,12 @@ absurd_first t (Runs i a) rules n same long some = first_offered rules
     (stops_that_go t (Runs i a) i ∷ state_rewrites (program_variables t.lines) a ∷ [])) n same long some
 
 -- where some rule goes before links
-pub before_part : (t : Theory) (nodes : List GraphNode) (goal : ℕ) (j : Judgement) (rules : List Rule) (n : ℕ)
-    → HasJudgement nodes goal j → rules ≡ rules_before t j → n ≡ length rules → (n == 0) ≡ false
-    → OffersPart t nodes goal rules
-before_part t nodes goal j rules n node same long some = (
-  node.0,
-  node.1,
-  whole_part rules (rules_offered t nodes goal node.0.judgement)
-      (first_offered rules (rules_before t j) (rules_after t nodes goal j) n same long some
-      ∙ ap (rules_offered t nodes goal) node.2),
-)
+pub before_part : (t : Theory) (nodes : List MadeNode) (g : OpenGoal) (rules : List Rule) (n : ℕ)
+    → rules ≡ rules_before t g.premise.judgement → n ≡ length rules → (n == 0) ≡ false → OffersPart t nodes g rules
+before_part t nodes g rules n same long some =
+    let j = g.premise.judgement in
+    whole_part rules (rules_offered t nodes g)
+    (first_offered rules (rules_before t j) (rules_after t nodes g.parent j) n same long some)
 
 -- ---- Done
 

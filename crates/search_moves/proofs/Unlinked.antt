@@ -19,7 +19,7 @@ use Rattle.rule_table.proofs.LinkRule.{parts_are}
 use Rattle.rule_table.proofs.LinkRuns.{all_chosen}
 use Rattle.rule_table.proofs.Links.{length_left}
 use Rattle.back_links.specs.Listing.{candidates, links}
-use Rattle.proof_graph.specs.declared.nodes.GraphNode.{GraphNode}
+use Rattle.search_moves.specs.Nodes.{MadeNode, judgement_of}
 use Rattle.search_moves.specs.Lengths.{is_as_long}
 use Rattle.search_moves.specs.Offering.{is_companion, links_to}
 use Rattle.cyc_basics.proofs.Options.{none_is}
@@ -51,14 +51,14 @@ unlinked (Entail a bs) (Runs k b) v p e = cc
 unlinked (Runs i a) c v p e = cc
 
 -- so none to such a node
-pub none_to : (most : ℕ) (lines : List Command) (j : Judgement) (v : ℕ) (node : GraphNode)
-    → is_as_long j node.judgement ≡ false → links_to most lines j v node ≡ []
+pub none_to : (most : ℕ) (lines : List Command) (j : Judgement) (v : ℕ) (node : MadeNode)
+    → is_as_long j (judgement_of node) ≡ false → links_to most lines j v node ≡ []
 none_to most lines j v node e = by (is_companion j node)
   where
     none : (n : ℕ) → take {A = Link} n [] ≡ []
     none zero = refl
     none (suc n) = refl
 
-    by : (b : Bool) → (if b then take most (links j node.judgement v (variables_of lines j)) else []) ≡ []
-    by true = ap (take most) (unlinked j node.judgement v (variables_of lines j) e) ∙ none most
+    by : (b : Bool) → (if b then take most (links j (judgement_of node) v (variables_of lines j)) else []) ≡ []
+    by true = ap (take most) (unlinked j (judgement_of node) v (variables_of lines j) e) ∙ none most
     by false = refl

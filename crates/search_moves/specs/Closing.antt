@@ -1,5 +1,5 @@
 -- Which rules leave nothing to be shown.
-use Rattle.std.specs.Prelude.{ℕ, ◌≡◌, List, [], ◌∷◌, length, Bool, true, false, nat_lt, Option, Some, None, slice_get}
+use Rattle.std.specs.Prelude.{◌≡◌, List, [], ◌∷◌, length, Bool, true, false, nat_lt, Option, Some, None, slice_get}
 use Rattle.std.specs.Prelude.{Ok, Err}
 use Rattle.std.specs.List.{filter}
 use Rattle.heap_formula.specs.declared.atoms.Spatial.{Spatial}
@@ -14,8 +14,8 @@ use Rattle.heap_formula.specs.Judgements.{antecedent}
 use Rattle.heap_formula.specs.Meaning.{cases_of}
 use Rattle.rule_table.specs.Answer.{Answer}
 use Rattle.rule_table.specs.RuleBook.{rule_answer}
-use Rattle.proof_graph.specs.declared.nodes.GraphNode.{GraphNode}
 use Rattle.search_moves.specs.Trying.{Theory}
+use Rattle.search_moves.specs.Nodes.{OpenGoal, MadeNode}
 use Rattle.search_moves.specs.Offering.{rules_offered}
 
 abbrev pub has_no_premise : Answer → Bool
@@ -66,13 +66,10 @@ CloseAlike t j rules rules' = filter (closes t j) rules ≡ filter (closes t j) 
 abbrev pub IsPart : List Rule → List Rule → Type 0
 IsPart rules offered = (kept : Rule → Bool) × (rules ≡ filter kept offered)
 
--- these rules are offered to the goal, a node of the list, but for some that leave premises
-abbrev pub OffersClosing : Theory → List GraphNode → ℕ → List Rule → Type 0
-OffersClosing t nodes goal rules =
-    (node : GraphNode) × (slice_get nodes goal ≡ Some node)
-    × CloseAlike t node.judgement rules (rules_offered t nodes goal node.judgement)
+-- these rules are offered to the goal, but for some that leave premises
+abbrev pub OffersClosing : Theory → List MadeNode → OpenGoal → List Rule → Type 0
+OffersClosing t nodes g rules = CloseAlike t g.premise.judgement rules (rules_offered t nodes g)
 
--- each of these rules is offered to the goal, a node of the list, and they come in the order of the offers
-abbrev pub OffersPart : Theory → List GraphNode → ℕ → List Rule → Type 0
-OffersPart t nodes goal rules =
-    (node : GraphNode) × (slice_get nodes goal ≡ Some node) × IsPart rules (rules_offered t nodes goal node.judgement)
+-- each of these rules is offered to the goal, and they come in the order of the offers
+abbrev pub OffersPart : Theory → List MadeNode → OpenGoal → List Rule → Type 0
+OffersPart t nodes g rules = IsPart rules (rules_offered t nodes g)

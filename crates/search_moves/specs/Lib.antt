@@ -1,5 +1,6 @@
 pub mod Trying
 pub mod Settings
+pub mod Nodes
 pub mod Entailments
 pub mod Lines
 pub mod Instances
@@ -7,6 +8,7 @@ pub mod Limits
 pub mod States
 pub mod Ways
 pub mod Offering
+pub mod Graphs
 pub mod Rooms
 pub mod Lengths
 pub mod Closing

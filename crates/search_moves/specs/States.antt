@@ -1,5 +1,5 @@
 -- What is tried at a symbolic state of a program, line by line.
-use Rattle.std.specs.Prelude.{ℕ, zero, suc, List, [], ◌∷◌, ◌++◌, take, slice_get, Bool, true, false, not, ◌&&◌, ◌||◌}
+use Rattle.std.specs.Prelude.{ℕ, zero, suc, List, [], ◌∷◌, ◌++◌, length, slice_get, Bool, true, false, not, ◌&&◌, ◌||◌}
 use Rattle.std.specs.Prelude.{if◌then◌else◌, nat_eq, nat_le, Option, Some, None, Ok, Err}
 use Rattle.std.specs.List.{filter, list_any}
 use Rattle.heap_formula.specs.declared.terms.Term.{Term}
@@ -35,10 +35,9 @@ use Rattle.rule_table.specs.Answer.{Answer}
 use Rattle.rule_table.specs.Tests.{same_term, equated}
 use Rattle.rule_table.specs.ExecTable.{exec_answer}
 use Rattle.back_links.specs.Listing.{stands_in_pure, stands_in_spatial}
-use Rattle.proof_graph.specs.declared.nodes.GraphPremise.{GraphPremise}
-use Rattle.proof_graph.specs.declared.nodes.GraphNode.{GraphNode}
 use Rattle.search_moves.specs.Places.{each_place, first_place, first_line}
 use Rattle.search_moves.specs.Trying.{Theory, is_applicable}
+use Rattle.search_moves.specs.Nodes.{MadeNode, judgement_of}
 use Rattle.search_moves.specs.Entailments.{rewrite_at}
 use Rattle.search_moves.specs.Folds.{folds}
 
@@ -205,11 +204,10 @@ is_unfold (UnfoldRight k c) = false
 is_unfold Exec = false
 is_unfold (Drop k) = false
 
--- the node's reason is such a rule
-abbrev pub has_rule : (Rule → Bool) → Option Reason → Bool
-has_rule test None = false
-has_rule test (Some (Step rule)) = test rule
-has_rule test (Some (Back link)) = false
+-- the reason is such a rule
+abbrev pub has_rule : (Rule → Bool) → Reason → Bool
+has_rule test (Step rule) = test rule
+has_rule test (Back link) = false
 
 -- what a rule says of the way up to Exec, where above says what the nodes above it say
 abbrev pub by_exec : Bool → Rule → Bool
@@ -229,38 +227,30 @@ by_exec above (UnfoldRight k c) = false
 by_exec above Exec = true
 by_exec above (Drop k) = false
 
-abbrev pub is_number : ℕ → Option ℕ → Bool
-is_number v None = false
-is_number v (Some u) = nat_eq u v
+-- the node decides, where f says what the node above it says
+abbrev pub climb_by : (ℕ → Bool) → Option MadeNode → Bool
+climb_by f None = false
+climb_by f (Some node) = has_rule (by_exec (f node.goal.parent)) node.reason
 
--- node v proves one of the premises
-abbrev pub fills : ℕ → List GraphPremise → Bool
-fills v premises = list_any (λ (premise : GraphPremise). is_number v premise.slot) premises
-
--- the node above v decides; this one may be it
-abbrev pub climb_by : ℕ → Bool → Bool → Option GraphNode → Bool
-climb_by v above before None = before
-climb_by v above before (Some node) = if fills v node.premises then has_rule (by_exec above) node.reason else before
-
--- among the first n nodes: going up from node v over Rewrite and Cut, the first other rule is Exec
-abbrev pub climbs : List GraphNode → ℕ → ℕ → Bool
+-- going up from node v, at most n nodes, over Rewrite and Cut: the first other rule is Exec
+abbrev pub climbs : List MadeNode → ℕ → ℕ → Bool
 climbs nodes zero v = false
-climbs nodes (suc n) v = climb_by v (climbs nodes n n) (climbs nodes n v) (slice_get nodes n)
+climbs nodes (suc n) v = climb_by (climbs nodes n) (slice_get nodes v)
 
 abbrev pub is_on_line : ℕ → Judgement → Bool
 is_on_line i (Entail a bs) = false
 is_on_line i (Runs k a) = nat_eq k i
 
 -- a node of the line that unfolds or executes
-abbrev pub works_on : ℕ → GraphNode → Bool
-works_on i node = is_on_line i node.judgement && has_rule is_work node.reason
+abbrev pub works_on : ℕ → MadeNode → Bool
+works_on i node = is_on_line i (judgement_of node) && has_rule is_work node.reason
 
 -- ---- the lines
 
--- folds are tried after Exec alone, where the line was worked on before
-abbrev pub folds_if : Theory → List GraphNode → ℕ → ℕ → SymbolicHeap → List Rule
-folds_if t nodes goal i a =
-    if climbs nodes goal goal && list_any (works_on i) (take goal nodes) then folds a t.definitions else []
+-- folds are tried after Exec alone, where the line was worked on before; node v is above the goal
+abbrev pub folds_if : Theory → List MadeNode → ℕ → ℕ → SymbolicHeap → List Rule
+folds_if t nodes v i a =
+    if climbs nodes (length nodes) v && list_any (works_on i) nodes then folds a t.definitions else []
 
 abbrev pub stops_that_go : Theory → Judgement → ℕ → List Rule
 stops_that_go t j i = filter (is_applicable t j) (stops (counted_from_one t.lines i))
@@ -272,6 +262,6 @@ state_before t j i a =
     ∷ state_rewrites (program_variables t.lines) a ∷ [])
 
 -- where no link is admitted
-abbrev pub state_after : Theory → List GraphNode → ℕ → Judgement → ℕ → SymbolicHeap → List Rule
-state_after t nodes goal j i a =
-    filter (is_applicable t j) (folds_if t nodes goal i a ++ (Exec ∷ cell_unfolds t j i a))
+abbrev pub state_after : Theory → List MadeNode → ℕ → Judgement → ℕ → SymbolicHeap → List Rule
+state_after t nodes v j i a =
+    filter (is_applicable t j) (folds_if t nodes v i a ++ (Exec ∷ cell_unfolds t j i a))

@@ -9,6 +9,7 @@ mod entailments;
 mod equations;
 mod faults;
 pub mod folds;
+mod graphs;
 mod instances;
 mod offered;
 mod offering;
@@ -19,5 +20,6 @@ mod states;
 mod ways;
 
 pub use closing::leaves_premises;
+pub use graphs::offers;
 pub use offered::Offers;
-pub use offering::{closing_offers, offers, offers_of};
+pub use offering::{closing_offers, offers_of};

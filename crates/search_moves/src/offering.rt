@@ -3,12 +3,11 @@ ghost use Rattle.std.specs.Prelude.{◌≡◌, ◌<◌, ℕ, ◌≤◌, IfOk, le
 ghost use Rattle.heap_formula.specs.Words.{Each};
 ghost use Rattle.heap_formula.specs.Meaning.{cases_of};
 ghost use Rattle.search_moves.specs.FoldLimits.{HasFewParameters};
-ghost use Rattle.proof_graph.specs.Nodes.{HasJudgement};
 ghost use Rattle.search_moves.specs.Closing.{CloseAlike, IsPart, OffersClosing, OffersPart};
 ghost use Rattle.search_moves.specs.Limits.{IsSmall};
 ghost use Rattle.search_moves.specs.Settings.{theory_of, theory};
 ghost use Rattle.search_moves.specs.Offering.{candidates as candidates_of, rules_before as rules_before_links};
-ghost use Rattle.search_moves.specs.Offering.{rules_after as rules_after_links, OffersLinks, OffersRules};
+ghost use Rattle.search_moves.specs.Offering.{rules_after as rules_after_links, links_offered, rules_offered};
 
 use crate::closing::{closing_rules, have_cases};
 use crate::companions::candidates;
@@ -18,10 +17,10 @@ use crate::places::rewrites;
 use crate::setting::GoalSetting;
 use crate::{entailments, states};
 use cyc_basics::memory::OutOfMemory;
+use derivations::tableaux::{MadeNode, OpenGoal};
 use goto_lang::Program;
-use heap_formula::{Judgement, Rule};
+use heap_formula::{Judgement, Reason, Rule};
 use pred_defs::Defs;
-use proof_graph::Graph;
 use std::alloc::Global;
 
 fn rules_before(alloc: Global, at: &GoalSetting<'_>) -> Result<Vec<Rule>, OutOfMemory>
@@ -41,20 +40,19 @@ fn rules_before(alloc: Global, at: &GoalSetting<'_>) -> Result<Vec<Rule>, OutOfM
 fn rules_after(
     alloc: Global,
     at: &GoalSetting<'_>,
-    graph: &Graph<'_>,
-    goal: u32,
+    made: &[MadeNode<Judgement, Reason>],
+    parent: u32,
 ) -> Result<Vec<Rule>, OutOfMemory>
-    requires goal { goal < length graph.now }
     requires parameters { Each HasFewParameters at.now.defs.now.list }
     requires cases { (q : ℕ) → length (cases_of at.now.defs.now.list q) ≤ 65536 }
-    ensures { IfOk result (λ v. v.items ≡ rules_after_links (theory_of at.now) graph.now goal at.now.judgement.now) }
+    ensures { IfOk result (λ v. v.items ≡ rules_after_links (theory_of at.now) made.now parent at.now.judgement.now) }
 {
     match at.judgement {
         Judgement::Entail(left, right) => {
             entailments::rules_after(alloc, at, left, right.heaps())
         }
         Judgement::Term(line, state) => {
-            states::rules_after(alloc, at, graph, goal, *line, state)
+            states::rules_after(alloc, at, made, parent, *line, state)
         }
     }
 }
@@ -63,22 +61,21 @@ fn rules_after(
 fn closing_rules_after(
     alloc: Global,
     at: &GoalSetting<'_>,
-    graph: &Graph<'_>,
-    goal: u32,
+    made: &[MadeNode<Judgement, Reason>],
+    parent: u32,
 ) -> Result<Vec<Rule>, OutOfMemory>
-    requires goal { goal < length graph.now }
     requires parameters { Each HasFewParameters at.now.defs.now.list }
     requires cases { (q : ℕ) → length (cases_of at.now.defs.now.list q) ≤ 65536 }
     ensures closing { IfOk result (λ v. CloseAlike (theory_of at.now) at.now.judgement.now v.items
-        (rules_after_links (theory_of at.now) graph.now goal at.now.judgement.now)) }
+        (rules_after_links (theory_of at.now) made.now parent at.now.judgement.now)) }
     ensures offered { IfOk result (λ v. IsPart v.items
-        (rules_after_links (theory_of at.now) graph.now goal at.now.judgement.now)) }
+        (rules_after_links (theory_of at.now) made.now parent at.now.judgement.now)) }
 {
     match at.judgement {
         Judgement::Entail(left, right) if have_cases(at.defs, left.spatial()) => {
             closing_rules(alloc, at, left, right.heaps())
         }
-        _ => rules_after(alloc, at, graph, goal),
+        _ => rules_after(alloc, at, made, parent),
     }
 }
 
@@ -86,53 +83,35 @@ fn closing_rules_after(
 fn beside_links(
     alloc: Global,
     at: &GoalSetting<'_>,
-    graph: &Graph<'_>,
-    goal: u32,
+    made: &[MadeNode<Judgement, Reason>],
     rules: Vec<Rule>,
 ) -> Result<Offers, OutOfMemory>
-    requires goal { goal < length graph.now }
+    requires few { length made.now < 4294967296 }
     ensures links { IfOk result (λ o. o.links.items
-        ≡ candidates_of at.now.program.now graph.now goal at.now.judgement.now) }
+        ≡ candidates_of at.now.program.now made.now at.now.judgement.now) }
     ensures rules { IfOk result (λ o. o.rules.items ≡ rules.items) }
 {
-    let links = candidates(alloc, at.program, graph, goal, at.judgement)?;
+    let links = candidates(alloc, at.program, made, at.judgement)?;
     Ok(Offers { links, rules })
 }
 
-/// The links and the rules that the goal, a node without a reason, is offered in the partial derivation that the graph
-/// holds, in the order in which they are to be tried. A rule with a fault is not offered, and no link is where a rule
-/// goes before links.
-pub fn offers(
-    alloc: Global,
-    defs: &Defs,
-    program: &Program,
-    graph: &Graph<'_>,
-    goal: u32,
-) -> Result<Offers, OutOfMemory>
-    requires goal { goal < length graph.now }
-    requires small { Each IsSmall defs.now.list }
-    ensures links { IfOk result (λ o. OffersLinks (theory defs.now program.now) graph.now goal o.links.items) }
-    ensures rules { IfOk result (λ o. OffersRules (theory defs.now program.now) graph.now goal o.rules.items) }
-{
-    let judgement = graph.judgement(goal)?;
-    offers_of(alloc, defs, program, graph, goal, &judgement)
-}
-
-/// The same of a goal whose judgement is at hand.
+/// The links and the rules that the goal is offered over the nodes made before it, in the order in which they are to be
+/// tried. A rule with a fault is not offered, and no link is where a rule goes before links.
 pub fn offers_of(
     alloc: Global,
     defs: &Defs,
     program: &Program,
-    graph: &Graph<'_>,
-    goal: u32,
-    judgement: &Judgement,
+    made: &[MadeNode<Judgement, Reason>],
+    goal: &OpenGoal<Judgement>,
 ) -> Result<Offers, OutOfMemory>
-    requires goal { goal < length graph.now }
-    requires judgement { HasJudgement graph.now goal judgement.now }
+    requires few { length made.now < 4294967296 }
     requires small { Each IsSmall defs.now.list }
-    ensures links { IfOk result (λ o. OffersLinks (theory defs.now program.now) graph.now goal o.links.items) }
-    ensures rules { IfOk result (λ o. OffersRules (theory defs.now program.now) graph.now goal o.rules.items) }
+    ensures links { IfOk result (λ o. o.links.items
+        ≡ links_offered (theory defs.now program.now) made.now goal.now) }
+    ensures rules { IfOk result (λ o. o.rules.items
+        ≡ rules_offered (theory defs.now program.now) made.now goal.now) }
 {
+    let judgement = &goal.premise.judgement;
     let at = GoalSetting {
         defs,
         program,
@@ -146,8 +125,8 @@ pub fn offers_of(
         });
     }
     drop(rules);
-    let rules = rules_after(alloc, &at, graph, goal)?;
-    beside_links(alloc, &at, graph, goal, rules)
+    let rules = rules_after(alloc, &at, made, goal.parent)?;
+    beside_links(alloc, &at, made, rules)
 }
 
 /// The same, but for rules that leave premises: those may be left out.
@@ -155,17 +134,17 @@ pub fn closing_offers(
     alloc: Global,
     defs: &Defs,
     program: &Program,
-    graph: &Graph<'_>,
-    goal: u32,
-    judgement: &Judgement,
+    made: &[MadeNode<Judgement, Reason>],
+    goal: &OpenGoal<Judgement>,
 ) -> Result<Offers, OutOfMemory>
-    requires goal { goal < length graph.now }
-    requires judgement { HasJudgement graph.now goal judgement.now }
+    requires few { length made.now < 4294967296 }
     requires small { Each IsSmall defs.now.list }
-    ensures links { IfOk result (λ o. OffersLinks (theory defs.now program.now) graph.now goal o.links.items) }
-    ensures rules { IfOk result (λ o. OffersClosing (theory defs.now program.now) graph.now goal o.rules.items) }
-    ensures offered { IfOk result (λ o. OffersPart (theory defs.now program.now) graph.now goal o.rules.items) }
+    ensures links { IfOk result (λ o. o.links.items
+        ≡ links_offered (theory defs.now program.now) made.now goal.now) }
+    ensures rules { IfOk result (λ o. OffersClosing (theory defs.now program.now) made.now goal.now o.rules.items) }
+    ensures offered { IfOk result (λ o. OffersPart (theory defs.now program.now) made.now goal.now o.rules.items) }
 {
+    let judgement = &goal.premise.judgement;
     let at = GoalSetting {
         defs,
         program,
@@ -179,6 +158,6 @@ pub fn closing_offers(
         });
     }
     drop(rules);
-    let rules = closing_rules_after(alloc, &at, graph, goal)?;
-    beside_links(alloc, &at, graph, goal, rules)
+    let rules = closing_rules_after(alloc, &at, made, goal.parent)?;
+    beside_links(alloc, &at, made, rules)
 }

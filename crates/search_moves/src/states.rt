@@ -17,9 +17,11 @@ use crate::folds::folds;
 use crate::setting::{GoalSetting, those_that_go};
 use crate::ways::{came_by_exec, was_worked_on};
 use cyc_basics::memory::OutOfMemory;
+use derivations::tableaux::MadeNode;
 use goto_lang::Program;
-use heap_formula::{Command, Heap, Pure, Rule, RuleError, RuleFault, Spatial, Term};
-use proof_graph::Graph;
+use heap_formula::{
+    Command, Heap, Judgement, Pure, Reason, Rule, RuleError, RuleFault, Spatial, Term,
+};
 use rule_book::premises;
 use rule_table::equated;
 use std::alloc::Global;
@@ -137,36 +139,34 @@ pub fn rules_before(
 fn folds_behind_exec(
     alloc: Global,
     at: &GoalSetting<'_>,
-    graph: &Graph<'_>,
-    goal: u32,
+    made: &[MadeNode<Judgement, Reason>],
+    parent: u32,
     line: u32,
     state: &Heap,
 ) -> Result<Vec<Rule>, OutOfMemory>
-    requires goal { goal < length graph.now }
     requires parameters { Each HasFewParameters at.now.defs.now.list }
-    ensures { IfOk result (λ v. v.items ≡ folds_if (theory_of at.now) graph.now goal line state.now) }
+    ensures { IfOk result (λ v. v.items ≡ folds_if (theory_of at.now) made.now parent line state.now) }
 {
-    if came_by_exec(graph, goal) && was_worked_on(graph, goal, line) {
+    if came_by_exec(made, parent) && was_worked_on(made, line) {
         return folds(alloc, state, at.defs.as_slice());
     }
     Ok(Vec::new(alloc))
 }
 
-/// What comes at a state where no link is admitted.
+/// What comes at a state, a premise of node `parent`, where no link is admitted.
 pub fn rules_after(
     alloc: Global,
     at: &GoalSetting<'_>,
-    graph: &Graph<'_>,
-    goal: u32,
+    made: &[MadeNode<Judgement, Reason>],
+    parent: u32,
     line: u32,
     state: &Heap,
 ) -> Result<Vec<Rule>, OutOfMemory>
-    requires goal { goal < length graph.now }
     requires parameters { Each HasFewParameters at.now.defs.now.list }
     ensures { IfOk result (λ v. v.items
-        ≡ state_after (theory_of at.now) graph.now goal at.now.judgement.now line state.now) }
+        ≡ state_after (theory_of at.now) made.now parent at.now.judgement.now line state.now) }
 {
-    let mut rules = folds_behind_exec(alloc, at, graph, goal, line, state)?;
+    let mut rules = folds_behind_exec(alloc, at, made, parent, line, state)?;
     rules.push(Rule::Exec)?;
     push_missing_unfolds(&mut rules, alloc, at, line, state)?;
     those_that_go(alloc, at, rules)

@@ -28,7 +28,10 @@ use Rattle.solver.specs.Runs.{IsRight}
 use Rattle.solver.specs.Solutions.{Holds, IsSolution}
 use Rattle.solver.proofs.SameRuns.{same_right, turned_run}
 use Rattle.script_answers.specs.Begins.{is_script_text}
-use Rattle.frame_questions.specs.Questions.{is_frame_text, plain_text}
+use Rattle.frames.specs.Questions.{is_frame_text, plain_text}
+use Rattle.model_file.specs.declared.file.Model.{Model}
+use Rattle.solve_top.specs.Frames.{HasNoFrame}
+use Rattle.solve_top.proofs.FrameLaws.{no_frame_holds, no_frame_possible, same_no_frame}
 use Rattle.solve_top.specs.Inputs.{is_run_text}
 use Rattle.solve_top.specs.Answers.{EndAlike, IsAnswerTo, IsAnswerToAsked, IsAnswerWith, IsFrameSaid, IsInputAnswer}
 use Rattle.solve_top.specs.Answers.{IsProblemAnswer, IsQuestionAnswer, IsRerun, IsRunAnswer, IsSaid, IsSolved}
@@ -103,25 +106,27 @@ runs_alike (Err a) (Ok q) s t xs ys same first second = absurd same
 
 -- ---- questions for frames
 
--- a run with this status says that there is an answer, or nothing
-abbrev SaysYesOrNothing : Status → Type 0
-SaysYesOrNothing s = (s ≡ status.Success) ⊎ (s ≡ status.NotFound)
+-- no model shows that there is no frame
+abbrev MayHaveFrame : Problem → Type 0
+MayHaveFrame p = ¬ ((m : Model) × HasNoFrame p m)
 
-frame_says : (p : Problem) (s : Status) (text : List ℕ) → IsFrameSaid p s text → SaysYesOrNothing s
-frame_says p s text (inl told) = inl told.0
-frame_says p s text (inr (inl impossible)) = inl impossible.0
-frame_says p s text (inr (inr none)) = inr none.0
+frame_says : (p : Problem) (s : Status) (text : List ℕ) → IsFrameSaid p s text → Says (MayHaveFrame p) s
+frame_says p s text (inl told) =
+    let found = told.1.is_found in
+    inl (λ none. no_frame_holds p none.0 none.1 told.1.found.problem found.is_frame found.proof.holds, told.0)
+frame_says p s text (inr (inl impossible)) =
+    inl (λ none. impossible.1 (no_frame_possible p none.0 none.1), impossible.0)
+frame_says p s text (inr (inr (inl none))) = inr (inl (λ may. may (none.1.0, none.1.1), none.0))
+frame_says p s text (inr (inr (inr unknown))) = inr (inr unknown.0)
 
-frames_end_alike : (s t : Status) → SaysYesOrNothing s → SaysYesOrNothing t → EndAlike s t
-frames_end_alike s t (inl a) (inl b) = inl (a ∙ sym b)
-frames_end_alike s t (inl a) (inr b) = inr (ap has_answered a, ap has_answered b, inr b)
-frames_end_alike s t (inr a) (inl b) = inr (ap has_answered a, ap has_answered b, inl a)
-frames_end_alike s t (inr a) (inr b) = inl (a ∙ sym b)
+same_frames : (p q : Problem) → problems.AreSame p q → MayHaveFrame p → MayHaveFrame q
+same_frames p q same may none = may (none.0, same_no_frame q p (turned p q same) none.0 none.1)
 
 frames_alike : (r q : Result Problem ReadFault) (s t : Status) (xs ys : List ℕ) → AreAlike problems.AreSame r q
     → IsQuestionAnswer r s xs → IsQuestionAnswer q t ys → EndAlike s t
 frames_alike (Ok p) (Ok q) s t xs ys same first second =
-    frames_end_alike s t (frame_says p s xs first) (frame_says q t ys second)
+    says_alike (MayHaveFrame p) (MayHaveFrame q) s t (same_frames p q same) (same_frames q p (turned p q same))
+    (frame_says p s xs first) (frame_says q t ys second)
 frames_alike (Err a) (Err b) s t xs ys same first second = inl (first.ends ∙ ap fault_status same ∙ sym second.ends)
 frames_alike (Ok p) (Err b) s t xs ys same first second = absurd same
 frames_alike (Err a) (Ok q) s t xs ys same first second = absurd same

@@ -8,7 +8,6 @@ use Rattle.cyc_runs.proofs.WaysToEnd.{fault_fails, fault_is_no_refusal}
 use Rattle.formula_reader.specs.declared.problem.Problem.{Problem}
 use Rattle.formula_reader.specs.Reading as problems
 use Rattle.model_file.specs.declared.file.Model.{Model}
-use Rattle.model_file.specs.Written.{text_of_model}
 use Rattle.model_file.specs.Reading as models
 use Rattle.model_file.proofs.Readings as model_readings
 use Rattle.proof_file.specs.declared.file.ProofFile.{ProofFile}
@@ -25,14 +24,16 @@ use Rattle.solver.specs.declared.solution.Solution.TheVariants.{Proved, Impossib
 use Rattle.solver.specs.Solutions.{IsCheckedProof, IsCounterModel, IsFaultyRun, IsRefutation, IsSolution}
 use Rattle.script_answers.specs.Begins.{is_script_text}
 use Rattle.solve_top.specs.Inputs.{is_run_text}
-use Rattle.frame_questions.specs.Questions.{is_frame_text, plain_text}
+use Rattle.frames.specs.Questions.{is_frame_text, plain_text}
 use Rattle.solve_top.specs.Answers.{IsAnswerTo, IsAnswerToAsked, IsCertified, IsFrameSaid, IsFrameTold}
 use Rattle.solve_top.specs.Answers.{IsInputAnswer, IsProblemAnswer, IsQuestionAnswer, IsRerun, IsRunAnswer}
-use Rattle.solve_top.specs.Answers.{IsSaid, IsSolved, fails_line, holds_line, impossible_line, proof_text, run_text}
-use Rattle.solve_top.specs.Answers.{text_of_refutation}
+use Rattle.solve_top.specs.Answers.{IsSaid, IsSolved, fails_line, holds_line, impossible_line, model_text, proof_text}
+use Rattle.solve_top.specs.Answers.{run_text, text_of_refutation}
 use Rattle.command_answers.specs.Answers.{IsPossible}
 use Rattle.solve_top.specs.Written.{GoalFails, GoalHolds, IsModelText, IsProofText, IsRunText, RunFails, RunHolds}
-use Rattle.solve_top.specs.Written.{FrameHolds, IsFrameText, ScriptIsSolved, WroteFails, WroteHolds}
+use Rattle.solve_top.specs.Written.{FrameFails, FrameHolds, IsFrameText, ScriptIsSolved, WroteFails, WroteHolds}
+use Rattle.solve_top.specs.Notes.{AreNotes}
+use Rattle.solve_top.proofs.FrameLaws.{no_frame_holds}
 use Rattle.solve_top.proofs.ScriptLaws.{script_is_solved}
 
 -- ---- certificates are read
@@ -48,15 +49,18 @@ right_text p f text proof said = record {
       (proof_readings.text_is_read f);
 }
 
-model_text : (p : Problem) (m : Model) (text : List ℕ) → IsCounterModel p m
-    → IsCertified fails_line (text_of_model m.version m.defs.list m.stack m.heap m.ask) text → IsModelText p text
-model_text p m text counter said = record {
+model_is_read : (notes : List ℕ) (m : Model) → AreNotes notes → models.IsRead (notes ++ model_text m) (Ok m)
+model_is_read notes m are = notes-passed-over notes (model_text m) are models.model_files m
+    (model_readings.text_is_read m)
+
+counter_text : (p : Problem) (m : Model) (text : List ℕ) → IsCounterModel p m
+    → IsCertified fails_line (model_text m) text → IsModelText p text
+counter_text p m text counter said = record {
   model = m;
   counter = counter;
-  certificate = said.notes ++ text_of_model m.version m.defs.list m.stack m.heap m.ask;
+  certificate = said.notes ++ model_text m;
   is = said.is;
-  is_file = notes-passed-over said.notes (text_of_model m.version m.defs.list m.stack m.heap m.ask)
-      said.are_notes models.model_files m (model_readings.text_is_read m);
+  is_file = model_is_read said.notes m said.are_notes;
 }
 
 faulty_text : (p : Problem) (r : RunFile) (text : List ℕ) → IsFaultyRun p r → IsCertified fails_line (run_text r) text
@@ -132,14 +136,33 @@ frame_holds input text asks (Ok p) is answer =
         × IsCertified impossible_line [] text)
     shown (inl told) = inl (framed_text p text told.1)
     shown (inr (inl impossible)) = inr (impossible.1, impossible.2)
-    shown (inr (inr none)) = absurd (let h : status.Success ≡ status.NotFound = none.0 in cc)
+    shown (inr (inr (inl none))) = absurd (let h : status.Success ≡ status.Refused = none.0 in cc)
+    shown (inr (inr (inr unknown))) = absurd (let h : status.Success ≡ status.NotFound = unknown.0 in cc)
 frame_holds input text asks (Err fault) is answer = absurd (fault_fails fault answer.ends)
 
-frame_fails : (text : List ℕ) (read : Result Problem ReadFault) → IsQuestionAnswer read status.Refused text → ⊥
-frame_fails text (Ok p) (inl told) = let h : status.Refused ≡ status.Success = told.0 in cc
-frame_fails text (Ok p) (inr (inl impossible)) = let h : status.Refused ≡ status.Success = impossible.0 in cc
-frame_fails text (Ok p) (inr (inr none)) = let h : status.Refused ≡ status.NotFound = none.0 in cc
-frame_fails text (Err fault) answer = fault_is_no_refusal fault answer.ends
+frame_fails : (input text : List ℕ) → is_frame_text input ≡ true → (read : Result Problem ReadFault)
+    → problems.IsRead (plain_text input) read → IsQuestionAnswer read status.Refused text → FrameFails input text
+frame_fails input text asks (Ok p) is answer = shown answer
+  where
+    shown : IsFrameSaid p status.Refused text → FrameFails input text
+    shown (inl told) = absurd (let h : status.Refused ≡ status.Success = told.0 in cc)
+    shown (inr (inl impossible)) = absurd (let h : status.Refused ≡ status.Success = impossible.0 in cc)
+    shown (inr (inr (inl none))) =
+        let m = none.1.0 in
+        let said = none.1.2 in
+        record {
+          asks = asks;
+          problem = p;
+          is_problem = is;
+          fails = no_frame_holds p m none.1.1;
+          model = m;
+          none = none.1.1;
+          certificate = said.notes ++ model_text m;
+          is = said.is;
+          is_file = model_is_read said.notes m said.are_notes;
+        }
+    shown (inr (inr (inr unknown))) = absurd (let h : status.Refused ≡ status.NotFound = unknown.0 in cc)
+frame_fails input text asks (Err fault) is answer = absurd (fault_is_no_refusal fault answer.ends)
 
 -- what a success shows of an input
 abbrev Holding : List ℕ → List ℕ → Type 0
@@ -172,7 +195,7 @@ wrote_holds told old new wrote = (wrote.1.0, wrote.0, wrote.1.1, wrote.2, input_
 refutation_fails : (input text : List ℕ) (p : Problem) (refutation : Refutation) → problems.IsRead input (Ok p)
     → IsRefutation p refutation → IsCertified fails_line (text_of_refutation refutation) text → GoalFails input text
 refutation_fails input text p (CounterModel m) is counter said = record
-    { problem = p; is_problem = is; fails = counter.fails; shown = inl (model_text p m text counter said) }
+    { problem = p; is_problem = is; fails = counter.fails; shown = inl (counter_text p m text counter said) }
 refutation_fails input text p (FaultyRun r) is faulty said = record
     { problem = p; is_problem = is; fails = faulty.fails; shown = inr (faulty_text p r text faulty said) }
 
@@ -208,21 +231,25 @@ either_fails : (b : Bool) (input text : List ℕ) → IsAnswerTo b input status.
 either_fails true input text answer = inr (run_fails input text answer.0 answer.1 answer.2)
 either_fails false input text answer = inl (problem_fails input text answer.0 answer.1 answer.2)
 
-asked_fails : (b : Bool) (input text : List ℕ) → IsAnswerToAsked b input status.Refused text
-    → GoalFails input text ⊎ (RunFails input ⊎ ScriptIsSolved input text)
-asked_fails true input text answer = absurd (frame_fails text answer.0 answer.2)
-asked_fails false input text answer =
-    elim (either_fails (is_run_text input) input text answer) as
-    (λ _. GoalFails input text ⊎ (RunFails input ⊎ ScriptIsSolved input text))
+-- what a refusal shows of an input
+abbrev Failing : List ℕ → List ℕ → Type 0
+Failing input text = GoalFails input text ⊎ (RunFails input ⊎ (ScriptIsSolved input text ⊎ FrameFails input text))
+
+asked_fails : (b : Bool) (input text : List ℕ) → is_frame_text input ≡ b
+    → IsAnswerToAsked b input status.Refused text → Failing input text
+asked_fails true input text is answer =
+    inr (inr (inr (frame_fails input text is answer.0 answer.1 answer.2)))
+asked_fails false input text is answer =
+    elim (either_fails (is_run_text input) input text answer) as (λ _. Failing input text)
     [ inl goal ↦ inl goal | inr run ↦ inr (inl run) ]
 
 any_fails : (b : Bool) (input text : List ℕ) → is_script_text input ≡ b → IsInputAnswer b input status.Refused text
-    → GoalFails input text ⊎ (RunFails input ⊎ ScriptIsSolved input text)
-any_fails true input text is answer = inr (inr (script_is_solved input text status.Refused is refl (inr refl) answer))
-any_fails false input text is answer = asked_fails (is_frame_text input) input text answer
+    → Failing input text
+any_fails true input text is answer =
+    inr (inr (inl (script_is_solved input text status.Refused is refl (inr refl) answer)))
+any_fails false input text is answer = asked_fails (is_frame_text input) input text refl answer
 
-input_fails : (input text : List ℕ) → IsAnswerOf IsSolved input status.Refused text
-    → GoalFails input text ⊎ (RunFails input ⊎ ScriptIsSolved input text)
+input_fails : (input text : List ℕ) → IsAnswerOf IsSolved input status.Refused text → Failing input text
 input_fails input text (inl long) = absurd (let h : status.Refused ≡ status.Limit = long.1 in cc)
 input_fails input text (inr solved) = any_fails (is_script_text input) input text refl solved.1
 

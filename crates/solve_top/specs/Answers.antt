@@ -11,6 +11,7 @@ use Rattle.formula_reader.specs.declared.problem.Problem.{Problem}
 use Rattle.formula_reader.specs.Reading as problems
 use Rattle.heap_formula.specs.declared.judgements.Judgement.{Judgement}
 use Rattle.heap_formula.specs.declared.judgements.Judgement.TheVariants.{Entail, Term as Halting}
+use Rattle.model_file.specs.declared.file.Model.{Model}
 use Rattle.model_file.specs.Written.{text_of_model}
 use Rattle.proof_file.specs.declared.file.ProofFile.{ProofFile}
 use Rattle.proof_file.specs.Written.{text_of_file}
@@ -30,9 +31,9 @@ use Rattle.solver.specs.declared.solution.Solution.TheVariants.{Proved, Impossib
 use Rattle.solver.specs.Runs.{IsRight}
 use Rattle.solver.specs.Solutions.{IsSolution}
 use Rattle.script_answers.specs.Begins.{is_script_text}
-use Rattle.solve_top.specs.declared.frames.FoundFrame.{FoundFrame}
-use Rattle.solve_top.specs.Frames.{IsFound}
-use Rattle.frame_questions.specs.Questions.{is_frame_text, plain_text}
+use Rattle.solve_top.specs.declared.findings.FoundFrame.{FoundFrame}
+use Rattle.solve_top.specs.Frames.{HasNoFrame, IsFound}
+use Rattle.frames.specs.Questions.{is_frame_text, plain_text}
 use Rattle.solve_top.specs.Inputs.{is_run_text}
 use Rattle.solve_top.specs.Words.{effort_of}
 
@@ -65,13 +66,16 @@ pub record IsCertified (first certificate text : List ℕ) : Type 0 where
 abbrev pub proof_text : ProofFile → List ℕ
 proof_text f = text_of_file f.version f.defs.list f.program f.nodes
 
+abbrev pub model_text : Model → List ℕ
+model_text m = text_of_model m.version m.defs.list m.stack m.heap m.ask
+
 abbrev pub run_text : RunFile → List ℕ
 run_text r =
     text_of_run r.version r.defs.list r.program r.line r.precondition r.stack r.heap r.picks.items r.outcome
 
 -- the file of what refutes
 abbrev pub text_of_refutation : Refutation → List ℕ
-text_of_refutation (CounterModel m) = text_of_model m.version m.defs.list m.stack m.heap m.ask
+text_of_refutation (CounterModel m) = model_text m
 text_of_refutation (FaultyRun r) = run_text r
 
 -- how what is found is told
@@ -174,12 +178,18 @@ pub record IsFrameTold (problem : Problem) (text : List ℕ) : Type 0 where
   pub possible : IsPossible problem
   pub said : IsAsked holds_line found.text.items (proof_text found.proof.file) text
 
--- how what is found of a question is told: a frame, or that nothing satisfies the antecedent, or that nothing is known
+-- a model of the antecedent is told no part of which satisfies what is asked for
+abbrev pub IsNoFrameTold : Problem → List ℕ → Type 0
+IsNoFrameTold problem text = (m : Model) × HasNoFrame problem m × IsCertified fails_line (model_text m) text
+
+-- how what is found of a question is told: a frame, or that nothing satisfies the antecedent, or that there is no frame,
+-- or that nothing is known
 abbrev pub IsFrameSaid : Problem → Status → List ℕ → Type 0
 IsFrameSaid problem ending text =
     ((ending ≡ status.Success) × IsFrameTold problem text)
     ⊎ (((ending ≡ status.Success) × (¬ IsPossible problem) × IsCertified impossible_line [] text)
-    ⊎ ((ending ≡ status.NotFound) × IsCertified unknown_line [] text))
+    ⊎ (((ending ≡ status.Refused) × IsNoFrameTold problem text)
+    ⊎ ((ending ≡ status.NotFound) × IsCertified unknown_line [] text)))
 
 abbrev pub IsQuestionAnswer : Result Problem ReadFault → Status → List ℕ → Type 0
 IsQuestionAnswer (Ok problem) ending text = IsFrameSaid problem ending text

@@ -13,8 +13,8 @@ use Rattle.run_file.specs.Reading as runs
 use Rattle.solver.specs.Runs.{IsRight}
 use Rattle.solver.specs.Solutions.{Holds, IsCheckedProof, IsCounterModel, IsFaultyRun, IsImpossible}
 use Rattle.command_answers.specs.Answers.{IsPossible}
-use Rattle.frame_questions.specs.Questions.{is_frame_text, plain_text}
-use Rattle.solve_top.specs.Frames.{IsFrameOf}
+use Rattle.frames.specs.Questions.{is_frame_text, plain_text}
+use Rattle.solve_top.specs.Frames.{HasNoFrame, IsFrameOf}
 use Rattle.solve_top.specs.Notes.{AreNotes}
 use Rattle.solve_top.specs.Answers.{IsCertified, fails_line, holds_line, impossible_line, sat_line, unsat_line}
 use Rattle.script_answers.specs.Asking.{IsGoalOfInput}
@@ -146,6 +146,19 @@ pub record FrameHolds (input text : List ℕ) : Type 0 where
   pub is_problem : problems.IsRead (plain_text input) (Ok problem)
   pub shown : IsFrameText problem text ⊎ ((¬ IsPossible problem) × IsCertified impossible_line [] text)
 
+-- the input asks for a frame, and the text shows that there is none: after the first line it spells a model file, whose
+-- stack and heap satisfy the antecedent, while no part of the heap satisfies what is asked for
+pub record FrameFails (input text : List ℕ) : Type 0 where
+  pub asks : is_frame_text input ≡ true
+  pub problem : Problem
+  pub is_problem : problems.IsRead (plain_text input) (Ok problem)
+  pub fails : (framed : Problem) → IsFrameOf problem framed → ¬ Holds framed
+  pub model : Model
+  pub none : HasNoFrame problem model
+  pub certificate : List ℕ
+  pub is : text ≡ fails_line ++ certificate
+  pub is_file : models.IsRead certificate (Ok model)
+
 -- some input, which is the one that was told, and a text that was written stand to each other so
 abbrev pub WroteSo : (List ℕ → List ℕ → Type 0) → Option (List ℕ) → Option (List ℕ) → Option (List ℕ) → Type 0
 WroteSo Stand told old new =
@@ -159,6 +172,7 @@ WroteHolds = WroteSo (λ input text. GoalHolds input text
     ⊎ (RunHolds input ⊎ (ScriptIsSolved input text ⊎ FrameHolds input text)))
 
 -- the goal of the problem does not hold, and what was written shows it; or the run is not as its file tells; or the
--- same of a script
+-- same of a script; or a frame was asked for, and what was written shows that there is none
 abbrev pub WroteFails : Option (List ℕ) → Option (List ℕ) → Option (List ℕ) → Type 0
-WroteFails = WroteSo (λ input text. GoalFails input text ⊎ (RunFails input ⊎ ScriptIsSolved input text))
+WroteFails = WroteSo (λ input text. GoalFails input text
+    ⊎ (RunFails input ⊎ (ScriptIsSolved input text ⊎ FrameFails input text)))

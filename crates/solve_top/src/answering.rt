@@ -12,7 +12,7 @@ use crate::scripts::answer_to_script;
 use cyc_basics::memory::OutOfMemory;
 use cyc_runs::{Answer, Tool};
 use formula_reader::{Problem, read_problem};
-use frame_questions::is_frame_text;
+use frames::questions::is_frame_text;
 use run_file::read_run;
 use script_answers::is_script;
 use solver::solve;

@@ -1,7 +1,8 @@
 //! The top call of `solve`: words and a source of bytes in, one word, a certificate and a status out. Does a problem's
 //! goal hold? The answer is a proof, a counter-model, or a run that shows that the program does not halt; or that
 //! nothing is known. A script of the field's competition becomes a problem first. A question for a frame is answered by
-//! a problem that says what is left, and its proof.
+//! a problem that says what is left, and its proof; or by a model of the antecedent no part of which is what was asked
+//! for.
 #![tactic(auto)]
 
 ghost use Rattle.std.specs.Prelude.{◌≡◌, ◌+◌, ◌≤◌, ◌⊎◌, ℕ, List, Some, None, IsSome, map, string_bytes, true, false};
@@ -17,7 +18,8 @@ ghost use Rattle.solve_top.specs.Written.{WroteHolds, WroteFails};
 mod answering;
 mod answers;
 pub mod explanations;
-mod frames;
+mod findings;
+mod frameless;
 mod inputs;
 mod notes;
 mod possibilities;
@@ -57,7 +59,7 @@ pub fn run<S: Source, K: Sink>(alloc: Global, words: &[String], src: &mut S, out
     ensures headline { result ≡ Status.Success
         → WroteHolds (S.left src.old) (K.written out.old) (K.written out.new) }
     // The goal of the problem does not hold, and what was written shows it; or the run is not as its file tells; or the
-    // same of a script.
+    // same of a script; or a frame was asked for, and what was written shows that there is none.
     ensures refutation { result ≡ Status.Refused
         → WroteFails (S.left src.old) (K.written out.old) (K.written out.new) }
     ensures through { is_answer result ≡ true → IsSome (effort_by (map string_bytes words.now))

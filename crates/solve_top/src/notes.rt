@@ -1,5 +1,5 @@
 // Notes on what is found, in the names of the problem.
-ghost use Rattle.std.specs.Prelude.{◌≤◌, length};
+ghost use Rattle.std.specs.Prelude.{◌≤◌, ◌<◌, ◌-◌, ◌^◌, length};
 ghost use Rattle.cyc_runs.specs.Runs.{input_limit};
 
 use crate::explanations::{Notes, Part, name_hints};
@@ -10,6 +10,7 @@ use formula_reader::files::file_for;
 use goto_lang::Stack;
 use heap_formula::{Judgement, Reason, Rule};
 use logics::Numbers;
+use model_file::Model;
 use problem_syntax::names::{ProblemName, goal_names};
 use problem_syntax::read_problem_tree;
 use proof_file::texts::write_file;
@@ -23,7 +24,7 @@ const NAMES_A_LINE: usize = 8;
 
 /// The names of the goal's universal variables, by their numbers; none where the input is no problem.
 fn names_in<'a>(alloc: Global, input: &'a [u8]) -> Result<Vec<ProblemName<'a>>, OutOfMemory>
-    requires { length input.now ≤ input_limit }
+    requires { length input.now < 2 ^ 32 - 1 }
 {
     let tokens = match tokens(alloc, input) {
         Ok(tokens) => tokens,
@@ -244,6 +245,19 @@ pub fn notes_on_proof(alloc: Global, text: &[u8], found: &FoundProof) -> Result<
     let names = names_in(alloc, text)?;
     let mut notes = Notes::new(alloc);
     add_proof(alloc, &mut notes, &names, found)?;
+    Ok(notes)
+}
+
+/// Notes on a model of the antecedent of a question with this plain text, no part of which is what was asked for.
+pub fn notes_on_model(alloc: Global, plain: &[u8], model: &Model) -> Result<Notes, OutOfMemory>
+    requires { length plain.now < 2 ^ 32 - 1 }
+{
+    let names = names_in(alloc, plain)?;
+    let mut notes = Notes::new(alloc);
+    add_values(alloc, &mut notes, &names, &model.stack)?;
+    notes.line(&[Part::Text(
+        "the left side holds of it, and what is asked for of no part of it",
+    )])?;
     Ok(notes)
 }
 

@@ -4,19 +4,21 @@ ghost use Rattle.cyc_runs.specs.Endings.{is_answer};
 ghost use Rattle.cyc_runs.specs.Runs.{input_limit};
 ghost use Rattle.formula_reader.specs.Reading.{IsRead};
 ghost use Rattle.command_answers.specs.Answers.{IsPossible};
-ghost use Rattle.solve_top.specs.Frames.{IsFound};
+ghost use Rattle.solve_top.specs.Frames.{HasNoFrame, IsFound};
 ghost use Rattle.solve_top.specs.Answers.{IsFrameAnswer, IsFrameSaid};
 
 use crate::answers::{answer_to_text, certified};
 use crate::explanations::{Notes, Part};
-use crate::frames::{FoundFrame, found_frame};
-use crate::notes::notes_on_proof;
+use crate::findings::{Finding, FoundFrame, finding};
+use crate::frameless::frameless_model;
+use crate::notes::{notes_on_model, notes_on_proof};
 use crate::possibilities::{Possibility, possibility_of_problem};
 use crate::scripts::told;
 use cyc_basics::memory::OutOfMemory;
 use cyc_runs::{Answer, Status};
 use formula_reader::{Problem, read_problem};
-use frame_questions::plain_text;
+use frames::questions::plain_text;
+use model_file::{Model, write_model};
 use proof_file::texts::write_file;
 use std::alloc::Global;
 
@@ -40,12 +42,35 @@ fn answer_to_frame(
     })
 }
 
+/// The model that shows that there is no frame.
+fn answer_to_model(
+    alloc: Global,
+    plain: &[u8],
+    problem: &Problem,
+    model: &Model,
+) -> Result<Answer, OutOfMemory>
+    requires short { length plain.now < 2 ^ 32 - 1 }
+    requires none { HasNoFrame problem.now model.now }
+    ensures said { IfOk result (λ a. IsFrameSaid problem.now a.status a.text.items) }
+    ensures ending { IfOk result (λ a. is_answer a.status ≡ true) }
+{
+    let notes = notes_on_model(alloc, plain, model)?;
+    let file = write_model(alloc, model)?;
+    let text = certified(alloc, "fails\n", &notes, &file)?;
+    Ok(Answer {
+        status: Status::Refused,
+        text,
+    })
+}
+
 fn answer_to_nothing(alloc: Global, problem: &Problem) -> Result<Answer, OutOfMemory>
     ensures said { IfOk result (λ a. IsFrameSaid problem.now a.status a.text.items) }
     ensures ending { IfOk result (λ a. is_answer a.status ≡ true) }
 {
     let mut notes = Notes::new(alloc);
-    notes.line(&[Part::Text("no frame was found")])?;
+    notes.line(&[Part::Text(
+        "no frame was found, and no model that shows that there is none",
+    )])?;
     let text = certified(alloc, "unknown\n", &notes, &[])?;
     Ok(Answer {
         status: Status::NotFound,
@@ -79,8 +104,26 @@ fn answer_to_possible(
     ensures said { IfOk result (λ a. IsFrameSaid problem.now a.status a.text.items) }
     ensures ending { IfOk result (λ a. is_answer a.status ≡ true) }
 {
-    match found_frame(alloc, input, plain, problem, effort)? {
-        Some(found) => answer_to_frame(alloc, problem, &found),
+    match finding(alloc, input, plain, problem, effort)? {
+        Finding::Frame(found) => answer_to_frame(alloc, problem, &found),
+        Finding::NoFrame(model) => answer_to_model(alloc, plain, problem, &model),
+        Finding::Nothing => answer_to_nothing(alloc, problem),
+    }
+}
+
+/// The answer where it is not known whether something satisfies the antecedent: that there is no frame, or nothing.
+fn answer_to_doubtful(
+    alloc: Global,
+    plain: &[u8],
+    problem: &Problem,
+    effort: u32,
+) -> Result<Answer, OutOfMemory>
+    requires { length plain.now < 2 ^ 32 - 1 }
+    ensures said { IfOk result (λ a. IsFrameSaid problem.now a.status a.text.items) }
+    ensures ending { IfOk result (λ a. is_answer a.status ≡ true) }
+{
+    match frameless_model(alloc, problem, effort)? {
+        Some(model) => answer_to_model(alloc, plain, problem, &model),
         None => answer_to_nothing(alloc, problem),
     }
 }
@@ -101,7 +144,7 @@ fn answer_to_question(
     match possibility_of_problem(alloc, plain, problem)? {
         Possibility::Possible => answer_to_possible(alloc, input, plain, problem, effort),
         Possibility::Impossible => answer_to_impossible(alloc, problem),
-        Possibility::Unknown => answer_to_nothing(alloc, problem),
+        Possibility::Unknown => answer_to_doubtful(alloc, plain, problem, effort),
     }
 }
 

@@ -15,6 +15,7 @@ mod solution;
 mod solving;
 
 pub use budgets::{Budget, DEFAULT_EFFORT, MOST_EFFORT};
+pub use counter_models::heap_of;
 pub use cyc_basics::memory::OutOfMemory;
 pub use reruns::is_right;
 pub use solution::{FoundProof, ProofSearch, Refutation, Solution};

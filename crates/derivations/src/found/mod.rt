@@ -5,8 +5,10 @@
 mod effects;
 mod laws;
 mod nodes;
+mod searching;
 
 pub use cyc_basics::memory::OutOfMemory;
 pub use effects::effect_of;
 pub use laws::found_is_proof;
 pub use nodes::nodes_made;
+pub use searching::{Proved, search_proof};

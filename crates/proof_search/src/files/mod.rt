@@ -7,8 +7,9 @@ ghost use Rattle.heap_formula.specs.declared.judgements.Judgement.{Judgement};
 ghost use Rattle.heap_formula.specs.declared.proof_rules.Reason.{Reason};
 ghost use Rattle.derivations.specs.System.{search_of, IsFound};
 ghost use Rattle.search_moves.specs.Trying.{Theory};
-ghost use Rattle.proof_search.specs.Search.{search_system};
-ghost use Rattle.proof_search.specs.Found.{IsWithinLimits, MakesProof};
+ghost use Rattle.proof_search.specs.Calculus.{search_system};
+ghost use Rattle.proof_search.specs.Found.{MakesProof};
+ghost use Rattle.proof_search.specs.Problems.{IsWithinLimits};
 
 pub use offers::{
     links_stay_within, offered_links_have_no_fault, offered_rules_have_premises, rules_stay_within,

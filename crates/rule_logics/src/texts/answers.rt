@@ -12,7 +12,7 @@ use crate::{ByRules, NodeFault, Reason, RuleLogic, prove};
 use cyc_basics::memory::OutOfMemory;
 use cyc_runs::texts::{Line, not_found_line, path_refused_line};
 use cyc_runs::{Answer, INPUT_LIMIT, Status, Tool, answer_to_fault, fixed_answer};
-use logic_search::Proved;
+use derivations::found::Proved;
 use logics::{ProofNode, Verdict, check_proof};
 use std::alloc::Global;
 

@@ -4,7 +4,7 @@ use Rattle.derivations.specs.System.{search_of}
 use Rattle.fo_search.specs.Calculus.{calculus_of}
 use Rattle.fo_formula.specs.declared.sequents.FoSequent.{FoSequent}
 use Rattle.fo_logic.specs.FirstOrder.{first_order}
-use Rattle.logic_search.specs.Outcomes.{IsProved as IsFoundIn}
+use Rattle.derivations.specs.Outcomes.{IsProved as IsFoundIn}
 use Rattle.fo_search.proofs.Proofs.{is_search, same_search, is_outcome, is_first, is_proved}
 use Rattle.fo_search.proofs.prover.prove_fo.Goals as goal
 

@@ -6,4 +6,4 @@ pub returns : goal.returns
 returns c =
     answer c.args.defs.now.list c.args.cells.now c.args.places.now.keys c.args.stack.now c.args.ask.now
     c.in_ok-masks.masks c.as_slice.result.now (number c.in_ok-whole.whole)
-    c.has_mask-holds.result c.as_slice.ensures c.in_ok-whole.ensures c.in_ok-masks.ensures c.has_mask-holds.ensures
+    c.has_mask-holds.result c.requires.covers c.as_slice.ensures c.in_ok-whole.ensures c.in_ok-masks.ensures c.has_mask-holds.ensures

@@ -1,105 +1,62 @@
-use Rattle.std.proofs.Common.{◌+◌, ◌-◌, arith, ap, sym, Some, ◌∙◌}
-use Rattle.derivations.proofs.Firsts.{first_found}
-use Rattle.derivations.proofs.Deepening.{answers_at, goes_deeper}
-use Rattle.derivations.specs.System.{IsFound}
-use Rattle.derivations.specs.declared.search.Stop.TheVariants as stop
-use Rattle.proof_search.specs.Derivations.{reasons_in}
-use Rattle.proof_search.specs.Outcomes.{search_for}
-use Rattle.proof_search.proofs.Proofs.{HasFound, has_found, is_proof, follows, same_about, within, same_reasons}
+use Rattle.std.proofs.Common.{ap, subst, ◌∙◌}
+use Rattle.std.proofs.lemmas.Result.{IfOk-weaker}
+use Rattle.heap_formula.specs.declared.judgements.Judgement.{Judgement}
+use Rattle.derivations.specs.Outcomes.{IsProved as IsFoundIn}
+use Rattle.derivations.specs.System.{search_of}
+use Rattle.proof_search.specs.Calculus.{logic_over, calculus_of}
+use Rattle.proof_search.specs.Moves.{theory_in}
+use Rattle.proof_search.specs.Outcomes.{theory_for}
+use Rattle.proof_search.proofs.Proofs.{within, is_search, same_search, may_stand, is_outcome, is_first, is_proved}
 use Rattle.proof_search.proofs.prover.prove.Goals as goal
 
-pub returns-in-Some-TooManyDerivations-clause-outcome : goal.returns-in-Some-TooManyDerivations-clause-outcome
-returns-in-Some-TooManyDerivations-clause-outcome c =
-    answers_at (search_for c.args.problem.now) c.args.most c.loop-bound.bound _ (c.args.depth - c.loop-bound.bound)
-    stop.TooManyDerivations (reasons_in c.search_depth.new.moves) _ (omega arith)
-    (c.in_ok-search_depth.ensures.searched (search_for c.args.problem.now)
-    (follows c.args.problem.now c.in_ok-moves.moves c.in_ok-moves.ensures.defs c.in_ok-moves.ensures.program
-    c.in_ok-moves.ensures.root)) (c.in-Some-TooManyDerivations.is ∙ ap Some c.in-Some-TooManyDerivations.field-0-is)
-    ∙ c.loop-bound.invariant
+pub search_proof-requires-clause-of : goal.search_proof-requires-clause-of
+search_proof-requires-clause-of c = is_search c.args.problem.now c.in_ok-start.start c.in_ok-start.ensures.order
 
-pub returns-in-Some-TooManyStates-clause-outcome : goal.returns-in-Some-TooManyStates-clause-outcome
-returns-in-Some-TooManyStates-clause-outcome c =
-    answers_at (search_for c.args.problem.now) c.args.most c.loop-bound.bound _ (c.args.depth - c.loop-bound.bound)
-    stop.TooManyStates (reasons_in c.search_depth.new.moves) _ (omega arith)
-    (c.in_ok-search_depth.ensures.searched (search_for c.args.problem.now)
-    (follows c.args.problem.now c.in_ok-moves.moves c.in_ok-moves.ensures.defs c.in_ok-moves.ensures.program
-    c.in_ok-moves.ensures.root)) (c.in-Some-TooManyStates.is ∙ ap Some c.in-Some-TooManyStates.field-0-is)
-    ∙ c.loop-bound.invariant
+pub file_of-requires : goal.file_of-requires
+file_of-requires c =
+    let p = c.args.problem.now in
+    let order = c.in_ok-start.ensures.order in
+    let may = within p c.problem_is_within.ensures.definitions c.problem_is_within.ensures.program
+    c.problem_is_within.ensures.goal in
+    let e = c.in_ok-proved.ensures.outcome ∙ ap (λ s. search_of s c.args.most c.args.depth)
+    (same_search p c.in_ok-start.start order) in
+    let is = subst (λ t. IsFoundIn (logic_over (theory_for p)) (calculus_of t) p.goal c.in_ok-proved.proved) order.theory
+    (subst (λ (j : Judgement). IsFoundIn (logic_over (theory_for p))
+    (calculus_of (theory_in c.in_ok-start.start.logic)) j c.in_ok-proved.proved) order.root
+    c.in_ok-proved.ensures.proved) in
+    may_stand p may c.args.most c.args.depth c.in_ok-proved.proved e is
 
-pub file_of-requires-clause-closed : goal.file_of-requires-clause-closed
-file_of-requires-clause-closed c =
-    let h : HasFound c.args.problem.now c.search_depth.new.moves = has_found c.args.problem.now c.search_depth.new.moves
-    c.args.most c.args.depth c.in_ok-search_depth.ensures.order
-    (c.in_ok-search_depth.ensures.subject
-    ∙ same_about c.args.problem.now c.in_ok-moves.moves c.in_ok-moves.ensures.defs c.in_ok-moves.ensures.program
-    c.in_ok-moves.ensures.root)
-    (within c.args.problem.now c.problem_is_within.ensures.definitions c.problem_is_within.ensures.program
-    c.problem_is_within.ensures.goal)
-    (answers_at (search_for c.args.problem.now) c.args.most c.loop-bound.bound _ (c.args.depth - c.loop-bound.bound)
-    stop.Found (reasons_in c.search_depth.new.moves) _ (omega arith)
-    (c.in_ok-search_depth.ensures.searched (search_for c.args.problem.now)
-    (follows c.args.problem.now c.in_ok-moves.moves c.in_ok-moves.ensures.defs c.in_ok-moves.ensures.program
-    c.in_ok-moves.ensures.root)) (c.in-Some-Found.is ∙ ap Some c.in-Some-Found.field-0-is) ∙ c.loop-bound.invariant)
-    in h.closed
+pub returns-clause-outcome : goal.returns-clause-outcome
+returns-clause-outcome c =
+    let p = c.args.problem.now in
+    let may = within p c.problem_is_within.ensures.definitions c.problem_is_within.ensures.program
+    c.problem_is_within.ensures.goal in
+    let e = c.in_ok-proved.ensures.outcome ∙ ap (λ s. search_of s c.args.most c.args.depth)
+    (same_search p c.in_ok-start.start c.in_ok-start.ensures.order) in
+    IfOk-weaker c.file_of.result _ _
+    (λ q over. is_outcome p may c.args.most c.args.depth c.in_ok-proved.proved q over e) c.file_of.ensures
 
-pub file_of-requires-clause-proof : goal.file_of-requires-clause-proof
-file_of-requires-clause-proof c =
-    let h : HasFound c.args.problem.now c.search_depth.new.moves = has_found c.args.problem.now c.search_depth.new.moves
-    c.args.most c.args.depth c.in_ok-search_depth.ensures.order
-    (c.in_ok-search_depth.ensures.subject
-    ∙ same_about c.args.problem.now c.in_ok-moves.moves c.in_ok-moves.ensures.defs c.in_ok-moves.ensures.program
-    c.in_ok-moves.ensures.root)
-    (within c.args.problem.now c.problem_is_within.ensures.definitions c.problem_is_within.ensures.program
-    c.problem_is_within.ensures.goal)
-    (answers_at (search_for c.args.problem.now) c.args.most c.loop-bound.bound _ (c.args.depth - c.loop-bound.bound)
-    stop.Found (reasons_in c.search_depth.new.moves) _ (omega arith)
-    (c.in_ok-search_depth.ensures.searched (search_for c.args.problem.now)
-    (follows c.args.problem.now c.in_ok-moves.moves c.in_ok-moves.ensures.defs c.in_ok-moves.ensures.program
-    c.in_ok-moves.ensures.root)) (c.in-Some-Found.is ∙ ap Some c.in-Some-Found.field-0-is) ∙ c.loop-bound.invariant)
-    in h.proof
+pub returns-clause-first : goal.returns-clause-first
+returns-clause-first c =
+    let p = c.args.problem.now in
+    let may = within p c.problem_is_within.ensures.definitions c.problem_is_within.ensures.program
+    c.problem_is_within.ensures.goal in
+    let e = c.in_ok-proved.ensures.outcome ∙ ap (λ s. search_of s c.args.most c.args.depth)
+    (same_search p c.in_ok-start.start c.in_ok-start.ensures.order) in
+    IfOk-weaker c.file_of.result _ _ (λ q over. is_first p may c.args.most c.args.depth q
+    (is_outcome p may c.args.most c.args.depth c.in_ok-proved.proved q over e)) c.file_of.ensures
 
-pub returns-in-Some-Found-clause-outcome : goal.returns-in-Some-Found-clause-outcome
-returns-in-Some-Found-clause-outcome c =
-    ap IsFound
-    (same_reasons c.args.problem.now c.in_ok-file_of-in-Some-Found.field-0 c.search_depth.new.moves
-    c.in_ok-file_of-in-Some-Found.ensures.nodes) ∙ (answers_at (search_for c.args.problem.now)
-    c.args.most c.loop-bound.bound _ (c.args.depth - c.loop-bound.bound) stop.Found
-    (reasons_in c.search_depth.new.moves) _ (omega arith)
-    (c.in_ok-search_depth.ensures.searched (search_for c.args.problem.now)
-    (follows c.args.problem.now c.in_ok-moves.moves c.in_ok-moves.ensures.defs c.in_ok-moves.ensures.program
-    c.in_ok-moves.ensures.root)) (c.in-Some-Found.is ∙ ap Some c.in-Some-Found.field-0-is) ∙ c.loop-bound.invariant)
-
-pub returns-in-Some-Found-clause-first : goal.returns-in-Some-Found-clause-first
-returns-in-Some-Found-clause-first c =
-    first_found (search_for c.args.problem.now) c.args.most 1 c.args.depth _
-    (sym (returns-in-Some-Found-clause-outcome c))
-
-pub returns-in-Some-Found-clause-proved : goal.returns-in-Some-Found-clause-proved
-returns-in-Some-Found-clause-proved c =
-    let h : HasFound c.args.problem.now c.search_depth.new.moves = has_found c.args.problem.now c.search_depth.new.moves
-    c.args.most c.args.depth c.in_ok-search_depth.ensures.order
-    (c.in_ok-search_depth.ensures.subject
-    ∙ same_about c.args.problem.now c.in_ok-moves.moves c.in_ok-moves.ensures.defs c.in_ok-moves.ensures.program
-    c.in_ok-moves.ensures.root)
-    (within c.args.problem.now c.problem_is_within.ensures.definitions c.problem_is_within.ensures.program
-    c.problem_is_within.ensures.goal)
-    (answers_at (search_for c.args.problem.now) c.args.most c.loop-bound.bound _ (c.args.depth - c.loop-bound.bound)
-    stop.Found (reasons_in c.search_depth.new.moves) _ (omega arith)
-    (c.in_ok-search_depth.ensures.searched (search_for c.args.problem.now)
-    (follows c.args.problem.now c.in_ok-moves.moves c.in_ok-moves.ensures.defs c.in_ok-moves.ensures.program
-    c.in_ok-moves.ensures.root)) (c.in-Some-Found.is ∙ ap Some c.in-Some-Found.field-0-is) ∙ c.loop-bound.invariant)
-    in
-    is_proof c.args.problem.now c.in_ok-file_of-in-Some-Found.field-0 c.search_depth.new.moves h
-    c.problem_is_within.ensures.program c.in_ok-file_of-in-Some-Found.ensures.version
-    c.in_ok-file_of-in-Some-Found.ensures.definitions c.in_ok-file_of-in-Some-Found.ensures.program
-    c.in_ok-file_of-in-Some-Found.ensures.nodes
-    (same_reasons c.args.problem.now c.in_ok-file_of-in-Some-Found.field-0 c.search_depth.new.moves
-    c.in_ok-file_of-in-Some-Found.ensures.nodes)
-
-pub loop-bound-preserved : goal.loop-bound-preserved
-loop-bound-preserved c =
-    goes_deeper (search_for c.args.problem.now) c.args.most c.loop-bound.bound _ (c.args.depth + 1 - c.loop-bound.bound)
-    _ (reasons_in c.search_depth.new.moves) _ (omega arith) (omega arith)
-    (c.in_ok-search_depth.ensures.searched (search_for c.args.problem.now)
-    (follows c.args.problem.now c.in_ok-moves.moves c.in_ok-moves.ensures.defs c.in_ok-moves.ensures.program
-    c.in_ok-moves.ensures.root)) c.in-None.is ∙ c.loop-bound.invariant
+pub returns-clause-proved : goal.returns-clause-proved
+returns-clause-proved c =
+    let p = c.args.problem.now in
+    let order = c.in_ok-start.ensures.order in
+    let may = within p c.problem_is_within.ensures.definitions c.problem_is_within.ensures.program
+    c.problem_is_within.ensures.goal in
+    let e = c.in_ok-proved.ensures.outcome ∙ ap (λ s. search_of s c.args.most c.args.depth)
+    (same_search p c.in_ok-start.start order) in
+    let is = subst (λ t. IsFoundIn (logic_over (theory_for p)) (calculus_of t) p.goal c.in_ok-proved.proved) order.theory
+    (subst (λ (j : Judgement). IsFoundIn (logic_over (theory_for p))
+    (calculus_of (theory_in c.in_ok-start.start.logic)) j c.in_ok-proved.proved) order.root
+    c.in_ok-proved.ensures.proved) in
+    IfOk-weaker c.file_of.result _ _
+    (λ q over. is_proved p may c.args.most c.args.depth c.in_ok-proved.proved q over e is) c.file_of.ensures

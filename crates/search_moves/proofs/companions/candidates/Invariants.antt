@@ -1,8 +1,9 @@
-use Rattle.std.proofs.Common.{◌≡◌, ◌++◌, drop, take}
+use Rattle.std.proofs.Common.{◌≡◌, ◌++◌, drop}
 use Rattle.search_moves.specs.Places.{each_from}
 use Rattle.search_moves.specs.Offering.{links_to, candidates}
 use Rattle.search_moves.proofs.companions.candidates.Given as goal
 
-abbrev pub invariant-loop-v : goal.invariant-loop-v
-invariant-loop-v l = l.links.items ++ each_from (links_to 1000000 l.program l.judgement) l.v
-    (drop l.v (take l.goal l.graph)) ≡ candidates l.program l.graph l.goal l.judgement
+abbrev pub invariant-loop-number : goal.invariant-loop-number
+invariant-loop-number l =
+    l.links.items ++ each_from (links_to 1000000 l.program l.judgement) l.number (drop l.number l.made)
+    ≡ candidates l.program l.made l.judgement

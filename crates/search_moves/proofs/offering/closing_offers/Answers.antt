@@ -10,5 +10,5 @@ closing_rules_after-requires-clause-cases c = few_cases c.args.defs.now.list c.r
 pub returns-then-not-is_empty-clause-offered : goal.returns-then-not-is_empty-clause-offered
 returns-then-not-is_empty-clause-offered c =
     before_part (theory c.args.defs.now c.args.program.now)
-    c.args.graph.now c.args.goal c.args.judgement.now _ _ c.requires.judgement c.in_ok-rules.ensures
+    c.args.made.now c.args.goal.now _ _ c.in_ok-rules.ensures
     c.in_ok-rules.rules.ok.0 (sym c.if-not-is_empty.ensures)

@@ -1,5 +1,5 @@
 use Rattle.std.proofs.Common.{refl}
-use Rattle.logic_search.specs.declared.Proved.TheVariants.{Found, NotFound, TooManyDerivations, TooManyStates}
+use Rattle.derivations.specs.declared.found.searching.Proved.TheVariants.{Found, NotFound, TooManyDerivations, TooManyStates}
 use Rattle.rule_logics.proofs.Answered.{all_said, said}
 use Rattle.rule_logics.proofs.texts.answers.answer_to_problem.Goals as goal
 
