@@ -60,6 +60,7 @@ pub fn unsayable_word(what: Unsayable) -> UnsayableWord {
         Unsayable::Negation => UnsayableWord::Unsupported("negation"),
         Unsayable::Universal => UnsayableWord::Unsupported("quantifier"),
         Unsayable::Unbound => UnsayableWord::Unsupported("constant"),
+        Unsayable::Sorts => UnsayableWord::Unsupported("sort"),
         Unsayable::Cases => UnsayableWord::Limit("cases"),
         Unsayable::Quantifiers => UnsayableWord::Limit("locals"),
         Unsayable::PureAtoms => UnsayableWord::Limit("pure"),

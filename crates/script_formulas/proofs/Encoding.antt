@@ -44,15 +44,15 @@ same_options None (Some y) f g = g y refl
 same_options (Some x) y f g = sym (f x refl)
 
 -- a union of heaps that have no address in common
-over : List (ℕ × List ℕ) → Cells → Cells
+pub over : List (ℕ × List ℕ) → Cells → Cells
 over [] r = r
 over (e ∷ es) r = insert (over es r) e.0 e.1
 
-abbrev first_some : {X : Type 0} → Option X → Option X → Option X
+abbrev pub first_some : {X : Type 0} → Option X → Option X → Option X
 first_some None y = y
 first_some (Some x) y = Some x
 
-over_at : (es : List (ℕ × List ℕ)) (r : Cells) (a : ℕ) → cell_at (over es r) a
+pub over_at : (es : List (ℕ × List ℕ)) (r : Cells) (a : ℕ) → cell_at (over es r) a
     ≡ first_some (find nat_cmp a es) (cell_at r a)
 unfolding over
 over_at [] r a = refl
@@ -110,7 +110,7 @@ one_cell_is a vs q us e = found (eq_by_cmp nat_cmp q a) refl (sym (one_cell_at a
     found true t e = (same_address q a t, cc)
     found false t e = absurd cc
 
-same_numbers : (m n : ℕ) → nat_eq m n ≡ true → m ≡ n
+pub same_numbers : (m n : ℕ) → nat_eq m n ≡ true → m ≡ n
 same_numbers m n t = eqb-true m n t
 
 itself : (n : ℕ) → nat_eq n n ≡ true

@@ -1,6 +1,6 @@
 -- A goal that asks what a script does holds where the script cannot be satisfied.
 use Rattle.std.proofs.Common.{◌≡◌, ℕ, zero, suc, ◌<◌, Bool, true, false, List, [], ◌∷◌, map, length, Some}
-use Rattle.std.proofs.Common.{refl, sym, ap, ◌∙◌, subst, arith, inl, inr}
+use Rattle.std.proofs.Common.{◌++◌, refl, sym, ap, ◌∙◌, subst, arith, ◌⊎◌, inl, inr}
 use Rattle.std.specs.Prelude.{nat_eq, slice_index}
 use Rattle.std.specs.List.{AllZip}
 use Rattle.std.specs.Ordering.{nat_cmp}
@@ -38,12 +38,13 @@ use Rattle.script_formulas.specs.Holding.{SeparateAtomsHold, OneCaseHolds}
 use Rattle.script_formulas.specs.Scope.{AreFine}
 use Rattle.script_formulas.specs.Sides.{AreDenied}
 use Rattle.script_formulas.specs.Translating.{IsPlaceOf, IsSpatialOf, AreHeapsOf, AreDisjuncts, impossible}
-use Rattle.script_formulas.specs.Defining.{AreDefinedIn, HasMore, IsAntecedent, IsAsked, IsGoalOf}
-use Rattle.script_formulas.specs.Spread.{IsApart, IsSatisfiableApart, HasOneSort}
+use Rattle.script_formulas.specs.Defining.{AreDefinedIn, IsAntecedent, IsAsked, IsGoalOf}
+use Rattle.script_formulas.specs.Spread.{IsApart}
 use Rattle.script_formulas.proofs.Encoding.{joined_from, one_sorted_is, encodes_apart, encodes_once, encodes_same}
 use Rattle.script_formulas.proofs.Transfer.{Encoded, IsTo, IsBack, agree_known}
 use Rattle.script_formulas.proofs.SameQuestion.{body_found, found, closed_to, OneSeparate, separate_closed, one_to}
 use Rattle.script_formulas.proofs.SameQuestion.{one_back, impossible_fails, least_to, least_back, satisfies_of}
+use Rattle.script_formulas.proofs.MovedModels.{IsPositive, apart_model}
 use Rattle.script_formulas.proofs.SameQuestion.{holds_of, antecedent_to, antecedent_back}
 
 each_unmapped : {X Y : Type 0} (P : Y → Type 0) (f : X → Y) (xs : List X) → Each P (map f xs) → Each (λ x. P (f x)) xs
@@ -88,137 +89,128 @@ module _ (numbers : Numbers) (locations : List ℕ) (P : SortedFamily) (ds : Lis
       one_back numbers locations P (least ds) (Known constants) s t (λ e q. agree_known constants q s e t fits)
       (c ∷ cs) bs h back fine is (OneOf-map (Satisfies ds t h) (HeapCaseHolds (least ds) t h) (holds_of ds t h) bs one)
 
--- a case that says nothing of the heap holds of the empty one
+-- a case that says nothing of the heap holds of the empty one, with atoms that have separate parts; so does any other of
+-- its own
 module _ (numbers : Numbers) (locations : List ℕ) (P : SortedFamily) (s : Stack) where
   separate_any : (cs : List SymbolicCase) (H : SortedCells) → AreFine 0 cs → OneCaseHolds locations P s [] cs H
-      → (G : SortedCells) × OneSeparate numbers locations P s cs G × (IsApart H → IsApart G)
+      → OneSeparate numbers locations P s cs no_sorted_cells ⊎ OneSeparate numbers locations P s cs H
   separate_any [] H fine one = absurd one
   separate_any (c ∷ cs) H fine (inr x) =
-      let r = separate_any cs H fine.1 x in (r.0, inr r.1, r.2)
+      elim (separate_any cs H fine.1 x) [ inl o ↦ inl (inr o) | inr o ↦ inr (inr o) ]
   separate_any (c ∷ cs) H fine (inl x) = by_heap c.any_heap refl
     where
-      by_heap : (any : Bool) → c.any_heap ≡ any
-          → (G : SortedCells) × OneSeparate numbers locations P s (c ∷ cs) G × (IsApart H → IsApart G)
-      by_heap true says = (
-        no_sorted_cells,
-        inl (
-          x.0,
-          x.1,
-          x.2,
-          subst (λ l. SeparateAtomsHold locations P s x.0 l no_sorted_cells)
-              (sym (fine.0.open_heap says)) refl,
-        ),
-        λ apart. none_apart,
-      )
-      by_heap false closed = (H, inl (x.0, x.1, x.2, closed_to locations P s x.0 c H closed x.3), λ apart. apart)
+      by_heap : (any : Bool) → c.any_heap ≡ any → OneSeparate numbers locations P s (c ∷ cs) no_sorted_cells
+          ⊎ OneSeparate numbers locations P s (c ∷ cs) H
+      by_heap true says = inl (inl (
+        x.0,
+        x.1,
+        x.2,
+        subst (λ l. SeparateAtomsHold locations P s x.0 l no_sorted_cells)
+            (sym (fine.0.open_heap says)) refl,
+      ))
+      by_heap false closed = inr (inl (x.0, x.1, x.2, closed_to locations P s x.0 c H closed x.3))
 
--- ---- cells of one sort
+-- ---- cells away from nil
 
 module _ (numbers : Numbers) (locations : List ℕ) where
-  -- each cell stands where those of some constructor do
-  abbrev Located : SortedCells → Type 0
-  Located H = (sort a : ℕ) (x : List ℕ) → cell_at (H sort) a ≡ Some x
-      → (c : ℕ) × (c < length numbers.fields.items) × (sort ≡ slice_index locations c)
+  abbrev ArePositive : SortedFamily → Type 0
+  ArePositive P = (p k : ℕ) (vs : List ℕ) (H : SortedCells) → IsPlaceOf numbers.predicates.items p k → P p vs H
+      → IsPositive H
 
-  abbrev AreLocated : SortedFamily → Type 0
-  AreLocated P = (p k : ℕ) (vs : List ℕ) (H : SortedCells) → IsPlaceOf numbers.predicates.items p k → P p vs H
-      → Located H
-
-  located_atoms : (P : SortedFamily) → AreLocated P → (v : Variables) (s own : Stack) (xs : List ScriptAtom)
+  positive_atoms : (P : SortedFamily) → ArePositive P → (v : Variables) (s own : Stack) (xs : List ScriptAtom)
       (ys : List Spatial) (H : SortedCells) → AllZip (IsSpatialOf numbers v) xs ys
-      → SeparateAtomsHold locations P s own xs H → Located H
-  located_atoms P located v s own [] ys H z holds sort a x e =
+      → SeparateAtomsHold locations P s own xs H → IsPositive H
+  positive_atoms P positive v s own [] ys H z holds sort a x e =
       no_cell sort a x (subst (λ G. cell_at (G sort) a ≡ Some x) holds e)
-  located_atoms P located v s own (b ∷ xs) [] H z holds sort a x e = absurd z
-  located_atoms P located v s own (Cell t c ts ∷ xs) (y ∷ ys) H z holds sort a x e =
+  positive_atoms P positive v s own (b ∷ xs) [] H z holds sort a x e = absurd z
+  positive_atoms P positive v s own (Cell t c ts ∷ xs) (y ∷ ys) H z holds sort a x e =
       elim (joined_from _ _ _ x ((holds.union.at sort).joins a) e) [
         | inl f ↦
             let g = subst (λ G. cell_at (G sort) a ≡ Some x) holds.first.1 f in
             let is = one_sorted_is locations numbers.fields.items numbers.widths.items (slice_index locations c)
             (value s own t)
             (c ∷ values s own ts) sort a x (nat_eq (slice_index locations c) sort) refl g in
-            (c, z.0.8, sym is.0)
-        | inr f ↦ located_atoms P located v s own xs ys holds.rest z.1 holds.others sort a x f
+            subst (λ n. 0 < n) (sym is.1) holds.first.0
+        | inr f ↦ positive_atoms P positive v s own xs ys holds.rest z.1 holds.others sort a x f
       ]
-  located_atoms P located v s own (Call p ts ∷ xs) (y ∷ ys) H z holds sort a x e =
+  positive_atoms P positive v s own (Call p ts ∷ xs) (y ∷ ys) H z holds sort a x e =
       elim (joined_from _ _ _ x ((holds.union.at sort).joins a) e) [
-        | inl f ↦ located p z.0.0 (values s own ts) holds.part z.0.2 holds.first sort a x f
-        | inr f ↦ located_atoms P located v s own xs ys holds.rest z.1 holds.others sort a x f
+        | inl f ↦ positive p z.0.0 (values s own ts) holds.part z.0.2 holds.first sort a x f
+        | inr f ↦ positive_atoms P positive v s own xs ys holds.rest z.1 holds.others sort a x f
       ]
 
-  located_one : (P : SortedFamily) → AreLocated P → (v : Variables) (s : Stack) (cs : List SymbolicCase)
+  positive_one : (P : SortedFamily) → ArePositive P → (v : Variables) (s : Stack) (cs : List SymbolicCase)
       (bs : List SymbolicHeap) (H : SortedCells) → AreHeapsOf numbers v cs bs
-      → OneSeparate numbers locations P s cs H → Located H
-  located_one P located v s [] bs H z one = absurd one
-  located_one P located v s (c ∷ cs) [] H z one = absurd z
-  located_one P located v s (c ∷ cs) (b ∷ bs) H z (inl x) =
-      located_atoms P located v s x.0 c.atoms b.spatial H z.0.1 x.3
-  located_one P located v s (c ∷ cs) (b ∷ bs) H z (inr x) = located_one P located v s cs bs H z.1 x
+      → OneSeparate numbers locations P s cs H → IsPositive H
+  positive_one P positive v s [] bs H z one = absurd one
+  positive_one P positive v s (c ∷ cs) [] H z one = absurd z
+  positive_one P positive v s (c ∷ cs) (b ∷ bs) H z (inl x) =
+      positive_atoms P positive v s x.0 c.atoms b.spatial H z.0.1 x.3
+  positive_one P positive v s (c ∷ cs) (b ∷ bs) H z (inr x) = positive_one P positive v s cs bs H z.1 x
 
-  module _ (predicates : List Predicate) (own : List Definition) (undivided : Type 0) (whole : undivided)
-      (defined : AreDefinedIn predicates numbers undivided numbers.predicates.items own) where
-    located_stage : (n : ℕ) → AreLocated (sorted_stage locations (map (λ q. formula_of q.body) predicates) n)
-    located_stage zero p k vs H place holds = absurd holds
-    located_stage (suc n) p k vs H place holds =
+  module _ (predicates : List Predicate) (own : List Definition)
+      (defined : AreDefinedIn predicates numbers numbers.predicates.items own) where
+    positive_stage : (n : ℕ) → ArePositive (sorted_stage locations (map (λ q. formula_of q.body) predicates) n)
+    positive_stage zero p k vs H place holds = absurd holds
+    positive_stage (suc n) p k vs H place holds =
         let bodies = map (λ q. formula_of q.body) predicates in
-        let f = found numbers locations predicates own [] undivided whole defined p k place in
+        let f = found numbers locations predicates own [] defined p k place in
         let by = f.2.2 in
         let P = sorted_stage locations bodies n in
         let body : FormulaHolds locations P vs [] (formula_of f.2.0.body) H =
         subst (λ g. FormulaHolds locations P vs [] g H) (body_found predicates p f.2.0 f.2.1) holds in
         let one = separate_closed numbers locations P vs by.cases H by.closed
         ((by.staged locations bodies n vs H).0 body) in
-        located_one P (located_stage n) (Known (length f.2.0.parameters.items)) vs by.cases by.heaps H by.translated one
+        positive_one P (positive_stage n) (Known (length f.2.0.parameters.items)) vs by.cases by.heaps H by.translated
+        one
 
-    located_least : AreLocated (sorted_least locations (map (λ q. formula_of q.body) predicates))
-    located_least p k vs H place holds = located_stage holds.0 p k vs H place holds.1
+    positive_least : ArePositive (sorted_least locations (map (λ q. formula_of q.body) predicates))
+    positive_least p k vs H place holds = positive_stage holds.0 p k vs H place holds.1
 
-  located_antecedent : (P : SortedFamily) → AreLocated P → (undivided : Type 0) (constants : ℕ) (s : Stack)
-      (cs : List SymbolicCase) (a : SymbolicHeap) (own ds : List Definition) (H : SortedCells)
-      → IsAntecedent numbers undivided constants cs a own ds → OneSeparate numbers locations P s cs H → Located H
-  located_antecedent P located undivided constants s [] a own ds H is one = absurd one
-  located_antecedent P located undivided constants s (c ∷ []) a own ds H is one =
-      located_one P located (Raised constants) s (c ∷ []) (a ∷ []) H (is.0, tt) one
-  located_antecedent P located undivided constants s (c ∷ d ∷ cs) a own ds H is one =
-      located_one P located is.0 s (c ∷ d ∷ cs) is.3 H is.7 one
+  positive_antecedent : (P : SortedFamily) → ArePositive P → (constants : ℕ) (s : Stack) (cs : List SymbolicCase)
+      (a : SymbolicHeap) (own ds : List Definition) (H : SortedCells) → IsAntecedent numbers constants cs a own ds
+      → OneSeparate numbers locations P s cs H → IsPositive H
+  positive_antecedent P positive constants s [] a own ds H is one = absurd one
+  positive_antecedent P positive constants s (c ∷ []) a own ds H is one =
+      positive_one P positive (Raised constants) s (c ∷ []) (a ∷ []) H (is.0, tt) one
+  positive_antecedent P positive constants s (c ∷ d ∷ cs) a own ds H is one =
+      positive_one P positive is.0 s (c ∷ d ∷ cs) is.3 H is.7 one
 
 -- ---- a script and its goal
 
-called_more : (numbers : Numbers) (undivided : Type 0) (constants : ℕ) (cs : List SymbolicCase) (a : SymbolicHeap)
-    (own called : List Definition) → IsAntecedent numbers undivided constants cs a own called → HasMore own called
-called_more numbers undivided constants [] a own called is = ([], is.1 ∙ sym (append-nil own))
-called_more numbers undivided constants (c ∷ []) a own called is = ([], is.1 ∙ sym (append-nil own))
-called_more numbers undivided constants (c ∷ d ∷ cs) a own called is = (is.2 ∷ [], is.6)
+-- what the antecedent calls stands behind the others
+called_behind : (numbers : Numbers) (constants : ℕ) (cs : List SymbolicCase) (a : SymbolicHeap)
+    (own ds : List Definition) → IsAntecedent numbers constants cs a own ds
+    → (more : List Definition) × (ds ≡ own ++ more)
+called_behind numbers constants [] a own ds is = ([], is.1 ∙ sym (append-nil own))
+called_behind numbers constants (c ∷ []) a own ds is = ([], is.1 ∙ sym (append-nil own))
+called_behind numbers constants (c ∷ d ∷ cs) a own ds is = (is.2 ∷ [], is.6)
 
 module _ (script : Script) (question : Question) (ds : List Definition) (goal : Judgement) (used : List ℕ)
-    (g : IsGoalOf script question ds goal used) (whole : ds ≡ g.called) where
+    (g : IsGoalOf script question ds goal used) where
   abbrev the_locations : List ℕ
   the_locations = locations_of script
 
   abbrev the_family : SortedFamily
   the_family = sorted_least (locations_of script) (bodies_of script)
 
-  said : IsAntecedent g.numbers (ds ≡ g.called) (length script.constants.items) g.first g.judged.0 g.own ds
-  said = subst (λ l. IsAntecedent g.numbers (ds ≡ g.called) (length script.constants.items) g.first g.judged.0 g.own l)
-      (sym whole) g.judged.2
-
-  front : HasMore g.own ds
-  front = called_more g.numbers (ds ≡ g.called) (length script.constants.items) g.first g.judged.0 g.own ds said
+  front : (more : List Definition) × (ds ≡ g.own ++ more)
+  front = called_behind g.numbers (length script.constants.items) g.first g.judged.0 g.own ds g.judged.2
 
   to_problem : IsTo g.numbers the_locations the_family (least ds)
   to_problem = subst (λ l. IsTo g.numbers the_locations the_family (least l)) (sym front.1)
-      (least_to g.numbers the_locations script.predicates.items g.own front.0 (ds ≡ g.called) whole g.defined)
+      (least_to g.numbers the_locations script.predicates.items g.own front.0 g.defined)
 
   from_problem : IsBack g.numbers the_locations the_family (least ds)
   from_problem = subst (λ l. IsBack g.numbers the_locations the_family (least l)) (sym front.1)
-      (least_back g.numbers the_locations script.predicates.items g.own front.0 (ds ≡ g.called) whole g.defined)
+      (least_back g.numbers the_locations script.predicates.items g.own front.0 g.defined)
 
   -- what satisfies the antecedent and no disjunct shows that the script can be satisfied
   pub refuted_satisfiable : (t : Stack) (h : Cells) → Satisfies ds t h g.judged.0
       → (SatisfiesOne ds t h g.judged.1 → ⊥) → IsSatisfiable script
   refuted_satisfiable t h holds not_one =
-      let r = antecedent_back g.numbers the_locations the_family g.own ds to_problem from_problem (ds ≡ g.called) whole
-      (length script.constants.items) g.first g.judged.0 t h g.fine_first said holds in
+      let r = antecedent_back g.numbers the_locations the_family g.own ds to_problem from_problem
+      (length script.constants.items) g.first g.judged.0 t h g.fine_first g.judged.2 holds in
       let apart = encodes_apart the_locations g.numbers.fields.items g.numbers.widths.items g.told r.0 h r.1 in
       let none : OneCaseHolds the_locations the_family t [] g.second r.0 → ⊥ = λ o.
       let d = disjuncts_to g.numbers the_locations the_family ds to_problem from_problem (length script.constants.items)
@@ -251,8 +243,8 @@ module _ (script : Script) (question : Question) (ds : List Definition) (goal : 
   refuted_by : (s : Stack) (H : SortedCells) → IsApart H → OneSeparate g.numbers the_locations the_family s g.first H
       → (OneCaseHolds the_locations the_family s [] g.second H → ⊥) → IsRefuted
   refuted_by s H apart one none =
-      let r = antecedent_to g.numbers the_locations the_family g.own ds to_problem from_problem (ds ≡ g.called) whole
-      (length script.constants.items) g.first g.judged.0 s H g.fine_first said apart one in (
+      let r = antecedent_to g.numbers the_locations the_family g.own ds to_problem from_problem
+      (length script.constants.items) g.first g.judged.0 s H g.fine_first g.judged.2 apart one in (
         r.0,
         r.1,
         r.4,
@@ -264,55 +256,48 @@ module _ (script : Script) (question : Question) (ds : List Definition) (goal : 
             none (subst (OneCaseHolds the_locations the_family s [] g.second) same d.2),
       )
 
-  satisfied_refuted : (asks : Question) → IsAsked asks g.first g.second → (s : Stack) (H : SortedCells) → IsApart H
-      → IsModel script s H → IsRefuted
-  satisfied_refuted Entailment asked s H apart model =
-      let sides = says_sides s H model in
-      refuted_by s H apart (separate_closed g.numbers the_locations the_family s g.first H asked.1 sides.0) sides.1
-  satisfied_refuted Satisfiability asked s H apart model =
-      let sides = says_sides s H model in
-      let any = separate_any g.numbers the_locations the_family s g.first H g.fine_first sides.0 in
-      refuted_by s any.0 (any.2 apart) any.1
-      (λ o. let none : OneCaseHolds the_locations the_family s [] [] any.0 =
-      subst (λ l. OneCaseHolds the_locations the_family s [] l any.0) asked o in none)
+  -- ---- whatever locations the sorts have in common
 
-  pub apart_refuted : IsSatisfiableApart script → IsRefuted
-  apart_refuted x = satisfied_refuted question g.asked x.0 x.1 x.2 x.3
+  positive : ArePositive g.numbers the_locations the_family
+  positive = positive_least g.numbers the_locations script.predicates.items g.own g.defined
 
-  -- ---- where all cells have locations of one sort
+  separate_positive : (s : Stack) (H : SortedCells) → OneSeparate g.numbers the_locations the_family s g.first H
+      → IsPositive H
+  separate_positive s H one = positive_antecedent g.numbers the_locations the_family positive
+      (length script.constants.items) s g.first g.judged.0 g.own ds H g.judged.2 one
 
-  located_apart : HasOneSort script → (H : SortedCells) → Located g.numbers the_locations H → IsApart H
-  located_apart one H located = record {
-    same = λ sort other a x y e f.
-        let c = located sort a x e in
-        let d = located other a y f in
-        let size : length g.numbers.fields.items ≡ length script.constructors.items = ap length g.fields
-        ∙ length-map script.constructors.items (λ k. length k.fields.items) in
-        c.2 ∙ one c.0 d.0 (omega (arith, c.1, size)) (omega (arith, d.1, size)) ∙ sym d.2;
-  }
+  -- atoms of one of the first cases have separate parts of the heap, unless a case says nothing of it
+  separate_or_refuted : (asks : Question) → IsAsked asks g.first g.second → (s : Stack) (H : SortedCells)
+      → IsModel script s H → OneSeparate g.numbers the_locations the_family s g.first H ⊎ IsRefuted
+  separate_or_refuted Entailment asked s H model =
+      inl (separate_closed g.numbers the_locations the_family s g.first H asked.1 (says_sides s H model).0)
+  separate_or_refuted Satisfiability asked s H model =
+      elim (separate_any g.numbers the_locations the_family s g.first H g.fine_first (says_sides s H model).0) [
+        | inl one ↦
+            let none : OneCaseHolds the_locations the_family s [] g.second no_sorted_cells → ⊥ = λ o.
+            subst (λ l. OneCaseHolds the_locations the_family s [] l no_sorted_cells) asked o in
+            inr (refuted_by s no_sorted_cells none_apart one none)
+        | inr one ↦ inl one
+      ]
 
-  located : AreLocated g.numbers the_locations the_family
-  located = located_least g.numbers the_locations script.predicates.items g.own (ds ≡ g.called) whole g.defined
+  apart_refuted : (s : Stack) (H : SortedCells) → IsApart H → IsModel script s H → IsRefuted
+  apart_refuted s H apart model =
+      elim (separate_or_refuted question g.asked s H model) [
+        | inl one ↦ refuted_by s H apart one (says_sides s H model).1
+        | inr refuted ↦ refuted
+      ]
 
-  one_sort_by : (asks : Question) → IsAsked asks g.first g.second → HasOneSort script → (s : Stack) (H : SortedCells)
-      → IsModel script s H → IsRefuted
-  one_sort_by Entailment asked one s H model =
-      let sides = says_sides s H model in
-      let separate = separate_closed g.numbers the_locations the_family s g.first H asked.1 sides.0 in
-      let apart = located_apart one H (located_antecedent g.numbers the_locations the_family located (ds ≡ g.called)
-      (length script.constants.items) s g.first g.judged.0 g.own ds H said separate) in
-      refuted_by s H apart separate sides.1
-  one_sort_by Satisfiability asked one s H model =
-      let sides = says_sides s H model in
-      let any = separate_any g.numbers the_locations the_family s g.first H g.fine_first sides.0 in
-      let apart = located_apart one any.0 (located_antecedent g.numbers the_locations the_family located (ds ≡ g.called)
-      (length script.constants.items) s g.first g.judged.0 g.own ds any.0 said any.1) in
-      refuted_by s any.0 apart any.1
-      (λ o. let none : OneCaseHolds the_locations the_family s [] [] any.0 =
-      subst (λ l. OneCaseHolds the_locations the_family s [] l any.0) asked o in none)
+  model_refuted : (s : Stack) (H : SortedCells) → IsModel script s H → IsRefuted
+  model_refuted s H model =
+      elim (separate_or_refuted question g.asked s H model) [
+        | inl one ↦
+            let m = apart_model script g.sorted s H (separate_positive s H one) model in
+            apart_refuted m.0 m.1 m.2 m.3
+        | inr refuted ↦ refuted
+      ]
 
-  pub one_sort_refuted : HasOneSort script → IsSatisfiable script → IsRefuted
-  one_sort_refuted one x = one_sort_by question g.asked one x.0 x.1 x.2
+  pub satisfiable_refuted : IsSatisfiable script → IsRefuted
+  satisfiable_refuted x = model_refuted x.0 x.1 x.2
 
   -- ---- in terms of the goal
 

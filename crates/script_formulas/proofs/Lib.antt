@@ -9,6 +9,10 @@ pub mod SideSteps
 pub mod Zipping
 pub mod GoalSteps
 pub mod Encoding
+pub mod Exchange
+pub mod SortTests
+pub mod MovedHeaps
+pub mod MovedModels
 pub mod Transfer
 pub mod SameQuestion
 pub mod GoalLaws

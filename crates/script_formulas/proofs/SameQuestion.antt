@@ -152,31 +152,30 @@ module _ (numbers : Numbers) (locations : List ℕ) where
 pub impossible_fails : (Q : Family) (vs : List ℕ) (h : Cells) → HeapCaseHolds Q vs h impossible → ⊥
 impossible_fails Q vs h holds = holds.1.0.0 refl
 
-taken_to : (F : SymbolicHeap → Type 0) (undivided : Type 0) (hs cases : List SymbolicHeap)
-    → AreCasesOf undivided hs cases → undivided → OneOf F hs → OneOf F cases
-taken_to F undivided [] cases taken whole one = absurd one
-taken_to F undivided (h ∷ hs) cases taken whole one = subst (OneOf F) (sym (taken whole)) one
+taken_to : (F : SymbolicHeap → Type 0) (hs cases : List SymbolicHeap) → AreCasesOf hs cases → OneOf F hs
+    → OneOf F cases
+taken_to F [] cases taken one = absurd one
+taken_to F (h ∷ hs) cases taken one = subst (OneOf F) (sym taken) one
 
-taken_back : (F : SymbolicHeap → Type 0) (undivided : Type 0) (hs cases : List SymbolicHeap)
-    → AreCasesOf undivided hs cases → undivided → (F impossible → ⊥) → OneOf F cases → OneOf F hs
-taken_back F undivided [] cases taken whole none one =
+taken_back : (F : SymbolicHeap → Type 0) (hs cases : List SymbolicHeap) → AreCasesOf hs cases → (F impossible → ⊥)
+    → OneOf F cases → OneOf F hs
+taken_back F [] cases taken none one =
     let o : OneOf F (impossible ∷ []) = subst (OneOf F) taken one in
     elim o [ inl x ↦ absurd (none x) | inr x ↦ absurd x ]
-taken_back F undivided (h ∷ hs) cases taken whole none one = subst (OneOf F) (taken whole) one
+taken_back F (h ∷ hs) cases taken none one = subst (OneOf F) taken one
 
 -- ---- the predicates
 
 module _ (numbers : Numbers) (locations : List ℕ) (predicates : List Predicate) (own more : List Definition)
-    (undivided : Type 0) (whole : undivided)
-    (defined : AreDefinedIn predicates numbers undivided numbers.predicates.items own) where
+    (defined : AreDefinedIn predicates numbers numbers.predicates.items own) where
   abbrev pub all_bodies : List Formula
   all_bodies = map (λ q. formula_of q.body) predicates
 
   pub found : (p k : ℕ) → IsPlaceOf numbers.predicates.items p k
-      → (d : Definition) × (slice_get own k ≡ Some d) × IsDefinedIn predicates numbers undivided p d
+      → (d : Definition) × (slice_get own k ≡ Some d) × IsDefinedIn predicates numbers p d
   found p k place =
-      let r = zip_at (IsDefinedIn predicates numbers undivided) numbers.predicates.items own k 0 defined place.0 in
-      (r.0, r.1, subst (λ m. IsDefinedIn predicates numbers undivided m r.0) place.1 r.2)
+      let r = zip_at (IsDefinedIn predicates numbers) numbers.predicates.items own k 0 defined place.0 in
+      (r.0, r.1, subst (λ m. IsDefinedIn predicates numbers m r.0) place.1 r.2)
 
   pub stage_to : (n : ℕ) → IsTo numbers locations (sorted_stage locations all_bodies n) (at_stage (own ++ more) n)
   stage_to zero p k vs H place apart holds = absurd holds
@@ -192,7 +191,7 @@ module _ (numbers : Numbers) (locations : List ℕ) (predicates : List Predicate
       let r = one_to numbers locations P Q (Known (length f.2.0.parameters.items)) vs vs
       (λ e q. agree_known (length f.2.0.parameters.items) q vs e vs (λ i less. refl)) by.cases by.heaps H (stage_to n)
       by.fine by.translated apart one in
-      let cases = taken_to (HeapCaseHolds Q vs r.0) undivided by.heaps f.0.cases by.taken whole r.2 in
+      let cases = taken_to (HeapCaseHolds Q vs r.0) by.heaps f.0.cases by.taken r.2 in
       (r.0, r.1, subst (OneOf (HeapCaseHolds Q vs r.0)) (sym (cases_found own more k f.0 f.1)) cases)
 
   pub stage_back : (n : ℕ) → IsBack numbers locations (sorted_stage locations all_bodies n) (at_stage (own ++ more) n)
@@ -204,7 +203,7 @@ module _ (numbers : Numbers) (locations : List ℕ) (predicates : List Predicate
       let Q = at_stage (own ++ more) n in
       let cases : OneOf (HeapCaseHolds Q vs h) f.0.cases =
       subst (OneOf (HeapCaseHolds Q vs h)) (cases_found own more k f.0 f.1) holds in
-      let heaps = taken_back (HeapCaseHolds Q vs h) undivided by.heaps f.0.cases by.taken whole
+      let heaps = taken_back (HeapCaseHolds Q vs h) by.heaps f.0.cases by.taken
       (impossible_fails Q vs h) cases in
       let r = one_back numbers locations P Q (Known (length f.2.0.parameters.items)) vs vs
       (λ e q. agree_known (length f.2.0.parameters.items) q vs e vs (λ i less. refl)) by.cases by.heaps h (stage_back n)
@@ -264,13 +263,13 @@ empty_right {l = l} {h = h} u e = union_same (union_empty l) (subst (λ g. IsUni
 
 module _ (numbers : Numbers) (locations : List ℕ) (P : SortedFamily) (own ds : List Definition)
     (to : IsTo numbers locations P (least ds)) (back : IsBack numbers locations P (least ds))
-    (undivided : Type 0) (whole : undivided) (constants : ℕ) where
+    (constants : ℕ) where
   -- values of the problem's variables that fit those of the constants
   abbrev pub Fits : Stack → Stack → Type 0
   Fits s t = (n : ℕ) → n < constants → get_or t n 0 ≡ get_or s n 0
 
   pub antecedent_to : (cs : List SymbolicCase) (a : SymbolicHeap) (s : Stack) (H : SortedCells) → AreFine 0 cs
-      → IsAntecedent numbers undivided constants cs a own ds → IsApart H → OneSeparate numbers locations P s cs H
+      → IsAntecedent numbers constants cs a own ds → IsApart H → OneSeparate numbers locations P s cs H
       → (t : Stack) × (h : Cells) × Fits s t × Encoded numbers locations H h × Satisfies ds t h a
   antecedent_to [] a s H fine is apart one = absurd one
   antecedent_to (c ∷ []) a s H fine is apart (inr x) = absurd x
@@ -287,7 +286,7 @@ module _ (numbers : Numbers) (locations : List ℕ) (P : SortedFamily) (own ds :
       let r = one_to numbers locations P (least ds) v s vs
       (λ e q. agree_listed v ns q s e vs (listed_free v ns is.4) (listed_bound v ns is.4) refl)
       (c ∷ d ∷ cs) is.3 H to fine is.7 apart one in
-      let cases = taken_to (HeapCaseHolds (least ds) vs r.0) undivided is.3 is.2.cases is.8 whole r.2 in
+      let cases = taken_to (HeapCaseHolds (least ds) vs r.0) is.3 is.2.cases is.8 r.2 in
       let there : cases_of ds k ≡ is.2.cases = ap (λ l. cases_of l k) is.6 ∙ last_cases own is.2 in
       let holds = least-IsClosed ds k vs r.0 (subst (OneOf (HeapCaseHolds (least ds) vs r.0)) (sym there) cases) in
       let call : Holds (λ _. least ds) s [] (call_of k ns) r.0 = (
@@ -309,7 +308,7 @@ module _ (numbers : Numbers) (locations : List ℕ) (P : SortedFamily) (own ds :
       )
 
   pub antecedent_back : (cs : List SymbolicCase) (a : SymbolicHeap) (t : Stack) (h : Cells) → AreFine 0 cs
-      → IsAntecedent numbers undivided constants cs a own ds → Satisfies ds t h a
+      → IsAntecedent numbers constants cs a own ds → Satisfies ds t h a
       → (H : SortedCells) × Encoded numbers locations H h × OneCaseHolds locations P t [] cs H
   antecedent_back [] a t h fine is holds =
       let none : Satisfies ds t h impossible = subst (Satisfies ds t h) is.0 holds in
@@ -334,7 +333,7 @@ module _ (numbers : Numbers) (locations : List ℕ) (P : SortedFamily) (own ds :
       let there : cases_of ds k ≡ is.2.cases = ap (λ l. cases_of l k) is.6 ∙ last_cases own is.2 in
       let cases : OneOf (HeapCaseHolds (least ds) vs h) is.2.cases =
       subst (OneOf (HeapCaseHolds (least ds) vs h)) there (least-opens ds k vs h called) in
-      let heaps = taken_back (HeapCaseHolds (least ds) vs h) undivided is.3 is.2.cases is.8 whole
+      let heaps = taken_back (HeapCaseHolds (least ds) vs h) is.3 is.2.cases is.8
       (impossible_fails (least ds) vs h) cases in
       one_back numbers locations P (least ds) v t vs
       (λ e q. agree_listed v ns q t e vs (listed_free v ns is.4) (listed_bound v ns is.4) refl)

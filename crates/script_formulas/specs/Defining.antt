@@ -18,18 +18,17 @@ use Rattle.script_formulas.specs.Cases.{SymbolicCase}
 use Rattle.script_formulas.specs.Formulas.{Formula, formula_of}
 use Rattle.script_formulas.specs.Holding.{IsDisjunctiveForm, IsStagedForm}
 use Rattle.script_formulas.specs.Scope.{AreFine}
+use Rattle.script_formulas.specs.Sorts.{IsSorted}
 use Rattle.script_formulas.specs.Sides.{AreSides, AreDenied, ClosedCases}
 use Rattle.script_formulas.specs.Translating.{IsHeapOf, AreHeapsOf, AreDisjuncts, AreToldApart, impossible}
 
--- the cases of a definition for these heaps: one that never holds where there are none; the heaps themselves, where
--- they are not divided among further definitions, of which nothing is said here
-abbrev pub AreCasesOf : Type 0 → List SymbolicHeap → List SymbolicHeap → Type 0
-AreCasesOf undivided [] cases = cases ≡ impossible ∷ []
-AreCasesOf undivided (h ∷ hs) cases = undivided → cases ≡ h ∷ hs
+-- the cases of a definition for these heaps: one that never holds where there are none
+abbrev pub AreCasesOf : List SymbolicHeap → List SymbolicHeap → Type 0
+AreCasesOf [] cases = cases ≡ impossible ∷ []
+AreCasesOf (h ∷ hs) cases = cases ≡ h ∷ hs
 
 -- a definition has the cases of a body, each of which says something of the heap
-pub record IsDefinedBy (numbers : Numbers) (undivided : Type 0) (arity : ℕ) (body : Formula) (d : Definition)
-    : Type 0 where
+pub record IsDefinedBy (numbers : Numbers) (arity : ℕ) (body : Formula) (d : Definition) : Type 0 where
   pub cases : List SymbolicCase
   pub form : IsDisjunctiveForm body cases
   pub staged : IsStagedForm body cases
@@ -37,12 +36,12 @@ pub record IsDefinedBy (numbers : Numbers) (undivided : Type 0) (arity : ℕ) (b
   pub closed : ClosedCases cases
   pub heaps : List SymbolicHeap
   pub translated : AreHeapsOf numbers (Known arity) cases heaps
-  pub taken : AreCasesOf undivided heaps d.cases
+  pub taken : AreCasesOf heaps d.cases
   pub parameters : d.arity ≡ arity
 
 -- a definition with these heaps stands behind the others
-abbrev pub HasDefined : Type 0 → List Definition → ℕ → List SymbolicHeap → List Definition → Type 0
-HasDefined undivided before arity heaps ds = (d : Definition) × (d.arity ≡ arity) × AreCasesOf undivided heaps d.cases
+abbrev pub HasDefined : List Definition → ℕ → List SymbolicHeap → List Definition → Type 0
+HasDefined before arity heaps ds = (d : Definition) × (d.arity ≡ arity) × AreCasesOf heaps d.cases
     × (ds ≡ before ++ d ∷ [])
 
 -- so does one with just these cases
@@ -50,21 +49,16 @@ abbrev pub HasPushed : List Definition → ℕ → List SymbolicHeap → List De
 HasPushed before arity cases ds = (d : Definition) × (d.arity ≡ arity) × (d.cases ≡ cases) × (ds ≡ before ++ d ∷ [])
 
 -- the definition of a body stands behind the others
-abbrev pub HasBody : Numbers → Type 0 → ℕ → Formula → List Definition → List Definition → Type 0
-HasBody numbers undivided arity body before ds = (d : Definition) × IsDefinedBy numbers undivided arity body d
-    × (ds ≡ before ++ d ∷ [])
-
--- there may be more definitions behind these
-abbrev pub HasMore : List Definition → List Definition → Type 0
-HasMore before ds = (more : List Definition) × (ds ≡ before ++ more)
+abbrev pub HasBody : Numbers → ℕ → Formula → List Definition → List Definition → Type 0
+HasBody numbers arity body before ds = (d : Definition) × IsDefinedBy numbers arity body d × (ds ≡ before ++ d ∷ [])
 
 -- a definition is that of the script's predicate p
-abbrev pub IsDefinedIn : List Predicate → Numbers → Type 0 → ℕ → Definition → Type 0
-IsDefinedIn predicates numbers undivided p d = (predicate : Predicate) × (slice_get predicates p ≡ Some predicate)
-    × IsDefinedBy numbers undivided (length predicate.parameters.items) (formula_of predicate.body) d
+abbrev pub IsDefinedIn : List Predicate → Numbers → ℕ → Definition → Type 0
+IsDefinedIn predicates numbers p d = (predicate : Predicate) × (slice_get predicates p ≡ Some predicate)
+    × IsDefinedBy numbers (length predicate.parameters.items) (formula_of predicate.body) d
 
-abbrev pub AreDefinedIn : List Predicate → Numbers → Type 0 → List ℕ → List Definition → Type 0
-AreDefinedIn predicates numbers undivided ps ds = AllZip (IsDefinedIn predicates numbers undivided) ps ds
+abbrev pub AreDefinedIn : List Predicate → Numbers → List ℕ → List Definition → Type 0
+AreDefinedIn predicates numbers ps ds = AllZip (IsDefinedIn predicates numbers) ps ds
 
 -- ---- the goal
 
@@ -78,26 +72,24 @@ abbrev pub call_of : ℕ → List ℕ → SymbolicHeap
 call_of p listed = record { pure = []; spatial = Pred p (map Univ listed) ∷ [] }
 
 -- a definition behind others has the cases, and the heap calls it with the constants that occur in them
-abbrev pub IsCallOf : Numbers → Type 0 → List SymbolicCase → SymbolicHeap → List Definition → List Definition → Type 0
-IsCallOf numbers undivided cs h before ds = (v : Variables) × (listed : List ℕ) × (d : Definition)
-    × (heaps : List SymbolicHeap)
+abbrev pub IsCallOf : Numbers → List SymbolicCase → SymbolicHeap → List Definition → List Definition → Type 0
+IsCallOf numbers cs h before ds = (v : Variables) × (listed : List ℕ) × (d : Definition) × (heaps : List SymbolicHeap)
     × IsListed v listed × (h ≡ call_of (length before) listed) × (ds ≡ before ++ d ∷ [])
-    × AreHeapsOf numbers v cs heaps × AreCasesOf undivided heaps d.cases
+    × AreHeapsOf numbers v cs heaps × AreCasesOf heaps d.cases
 
 -- the antecedent for the cases, where there are these constants, and the definitions before and with what it calls: one
 -- that never holds, the only case with its quantified variables as constants, or a call of a predicate that has the
 -- cases
-abbrev pub IsAntecedent : Numbers → Type 0 → ℕ → List SymbolicCase → SymbolicHeap → List Definition → List Definition
-    → Type 0
-IsAntecedent numbers undivided constants [] h before ds = (h ≡ impossible) × (ds ≡ before)
-IsAntecedent numbers undivided constants (c ∷ []) h before ds = IsHeapOf numbers (Raised constants) c h × (ds ≡ before)
-IsAntecedent numbers undivided constants (c ∷ d ∷ cs) h before ds = IsCallOf numbers undivided (c ∷ d ∷ cs) h before ds
+abbrev pub IsAntecedent : Numbers → ℕ → List SymbolicCase → SymbolicHeap → List Definition → List Definition → Type 0
+IsAntecedent numbers constants [] h before ds = (h ≡ impossible) × (ds ≡ before)
+IsAntecedent numbers constants (c ∷ []) h before ds = IsHeapOf numbers (Raised constants) c h × (ds ≡ before)
+IsAntecedent numbers constants (c ∷ d ∷ cs) h before ds = IsCallOf numbers (c ∷ d ∷ cs) h before ds
 
 -- both sides of the goal, for the cases of both
-abbrev pub IsJudgement : Numbers → Type 0 → ℕ → List SymbolicCase → List SymbolicCase → List Definition
-    → List Definition → Judgement → Type 0
-IsJudgement numbers undivided constants first second before ds goal = (antecedent : SymbolicHeap)
-    × (disjuncts : List SymbolicHeap) × IsAntecedent numbers undivided constants first antecedent before ds
+abbrev pub IsJudgement : Numbers → ℕ → List SymbolicCase → List SymbolicCase → List Definition → List Definition
+    → Judgement → Type 0
+IsJudgement numbers constants first second before ds goal = (antecedent : SymbolicHeap)
+    × (disjuncts : List SymbolicHeap) × IsAntecedent numbers constants first antecedent before ds
     × AreDisjuncts numbers constants second disjuncts × (goal ≡ Entail antecedent disjuncts)
 
 -- an entailment is asked where something that speaks of the heap is denied, and then all cases on the left speak of it
@@ -105,15 +97,15 @@ abbrev pub IsAsked : Question → List SymbolicCase → List SymbolicCase → Ty
 IsAsked Entailment first second = (second ≢ []) × ClosedCases first
 IsAsked Satisfiability first second = second ≡ []
 
--- the definitions and the goal say, heap by heap, what the cases of both sides of the script and of its predicates say;
--- no definition is divided where none stands behind those that the goal and the script's predicates name
+-- a well sorted script; the definitions and the goal say, heap by heap, what the cases of both sides of the script and
+-- of its predicates say
 pub record IsGoalOf (script : Script) (question : Question) (ds : List Definition) (goal : Judgement)
     (predicates : List ℕ) : Type 0 where
+  pub sorted : IsSorted script
   pub numbers : Numbers
   pub first : List SymbolicCase
   pub second : List SymbolicCase
   pub own : List Definition
-  pub called : List Definition
   pub sides : AreSides (map formula_of script.asserted.items) (map formula_of script.denied.items) first second
   pub fine_first : AreFine 0 first
   pub fine_second : AreDenied second
@@ -121,6 +113,5 @@ pub record IsGoalOf (script : Script) (question : Question) (ds : List Definitio
   pub fields : numbers.fields.items ≡ map (λ c. length c.fields.items) script.constructors.items
   pub used : predicates ≡ numbers.predicates.items
   pub asked : IsAsked question first second
-  pub defined : AreDefinedIn script.predicates.items numbers (ds ≡ called) numbers.predicates.items own
-  pub judged : IsJudgement numbers (ds ≡ called) (length script.constants.items) first second own called goal
-  pub definitions : HasMore called ds
+  pub defined : AreDefinedIn script.predicates.items numbers numbers.predicates.items own
+  pub judged : IsJudgement numbers (length script.constants.items) first second own ds goal

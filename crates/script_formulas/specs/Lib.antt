@@ -2,6 +2,7 @@ pub mod Formulas
 pub mod Heaps
 pub mod Meaning
 pub mod Spread
+pub mod Sorts
 pub mod Cases
 pub mod Forms
 pub mod Holding

@@ -1,6 +1,6 @@
 //! Laws of scripts and of the goals that they become. Each function is a law, and does nothing.
 
-ghost use Rattle.std.specs.Prelude.{◌≡◌, ℕ, List};
+ghost use Rattle.std.specs.Prelude.{ℕ, List};
 ghost use Rattle.heap_formula.specs.declared.commands.Command.{Command};
 ghost use Rattle.heap_formula.specs.declared.judgements.Judgement.{Judgement};
 ghost use Rattle.heap_formula.specs.Cells.{Cells};
@@ -12,23 +12,17 @@ ghost use Rattle.script_formulas.specs.declared.goals.question.Question.{Questio
 ghost use Rattle.script_formulas.specs.declared.script.Script.{Script};
 ghost use Rattle.script_formulas.specs.Defining.{IsGoalOf};
 ghost use Rattle.script_formulas.specs.Meaning.{IsSatisfiable};
-ghost use Rattle.script_formulas.specs.Spread.{IsSatisfiableApart, HasOneSort};
 
-/// Where no definition is divided: a goal that asks what a script does, and holds, shows that no heap in which sorts
-/// are apart satisfies the script, and none at all where its cells have locations of one sort.
+/// A goal that asks what a script does, and holds, shows that no heap satisfies the script, whatever sorts it has.
 pub fn goals_hold_of_unsatisfiable_scripts()
-    ensures apart { (script : Script) (question : Question) (ds : List Definition) (goal : Judgement) (used : List ℕ)
-        (lines : List Command) (g : IsGoalOf script question ds goal used) → ds ≡ g.called
-        → JudgementHolds ds lines goal → ¬ IsSatisfiableApart script }
-    ensures one_sort { (script : Script) (question : Question) (ds : List Definition) (goal : Judgement)
-        (used : List ℕ) (lines : List Command) (g : IsGoalOf script question ds goal used) → ds ≡ g.called
-        → HasOneSort script → JudgementHolds ds lines goal → ¬ IsSatisfiable script }
+    ensures { (script : Script) (question : Question) (ds : List Definition) (goal : Judgement) (used : List ℕ)
+        (lines : List Command) → IsGoalOf script question ds goal used → JudgementHolds ds lines goal
+        → ¬ IsSatisfiable script }
 {}
 
-/// Where no definition is divided: what satisfies the antecedent of such a goal, and is not as the goal says, shows
-/// that the script can be satisfied, whatever sorts it has.
+/// What satisfies the antecedent of such a goal, and is not as the goal says, shows that the script can be satisfied.
 pub fn goals_fail_of_satisfiable_scripts()
     ensures { (script : Script) (question : Question) (ds : List Definition) (goal : Judgement) (used : List ℕ)
-        (lines : List Command) (g : IsGoalOf script question ds goal used) → ds ≡ g.called → (s : Stack) (h : Cells)
+        (lines : List Command) → IsGoalOf script question ds goal used → (s : Stack) (h : Cells)
         → Satisfies ds s h (antecedent goal) → ¬ Concludes ds lines goal s h → IsSatisfiable script }
 {}

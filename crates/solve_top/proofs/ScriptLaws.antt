@@ -32,13 +32,12 @@ use Rattle.solve_top.specs.Answers.{is_entailment, proof_text, sat_line, unsat_l
 use Rattle.solve_top.specs.declared.possibilities.Possibility.TheVariants.{Possible}
 use Rattle.solve_top.specs.declared.possibilities.Possibility.TheVariants.{Impossible as NotPossible}
 use Rattle.script_formulas.specs.Meaning.{IsSatisfiable}
-use Rattle.script_formulas.specs.Spread.{IsSatisfiableApart, HasOneSort}
-use Rattle.script_formulas.proofs.GoalLaws.{apart_refuted, one_sort_refuted, holds_unrefuted, failing_satisfiable}
+use Rattle.script_formulas.proofs.GoalLaws.{satisfiable_refuted, holds_unrefuted, failing_satisfiable}
 use Rattle.script_formulas.proofs.GoalLaws.{possible_satisfiable}
 use Rattle.command_answers.proofs.Readings.{one_problem_reading}
 use Rattle.script_answers.specs.Asking.{IsGoalOfInput}
 use Rattle.solve_top.specs.Possibilities.{IsKnown, IsKnownFor}
-use Rattle.solve_top.specs.Written.{IsOverProblem, IsSatText, IsUndivided, IsUnsatText, ScriptIsSolved}
+use Rattle.solve_top.specs.Written.{IsOverProblem, IsSatText, IsUnsatText, ScriptIsSolved}
 
 over : (first text spelled certificate : List ℕ) (p : Problem) → problems.IsRead spelled (Ok p)
     → IsAsked first spelled certificate text → IsOverProblem first text p certificate
@@ -63,22 +62,14 @@ possible p m counter = (
 
 module _ (input : List ℕ) (question : Question) (p : Problem)
     (asked : IsGoalOfInput input question p.defs.list p.goal) where
-  no_model : Holds p → IsUndivided input question p asked → IsSatisfiableApart asked.script → ⊥
-  no_model holds whole can =
-      holds_unrefuted asked.script question p.defs.list p.goal asked.predicates asked.asks whole p.program holds
-      (apart_refuted asked.script question p.defs.list p.goal asked.predicates asked.asks whole can)
+  no_model : Holds p → IsSatisfiable asked.script → ⊥
+  no_model holds can =
+      holds_unrefuted asked.script question p.defs.list p.goal asked.predicates asked.asks p.program holds
+      (satisfiable_refuted asked.script question p.defs.list p.goal asked.predicates asked.asks can)
 
-  no_model_of_one : Holds p → IsUndivided input question p asked → HasOneSort asked.script
-      → IsSatisfiable asked.script → ⊥
-  no_model_of_one holds whole one can =
-      holds_unrefuted asked.script question p.defs.list p.goal asked.predicates asked.asks whole p.program holds
-      (one_sort_refuted asked.script question p.defs.list p.goal asked.predicates asked.asks whole one can)
-
-  model_of_counter : (m : Model) → IsCounterModel p m → IsUndivided input question p asked
-      → IsSatisfiable asked.script
-  model_of_counter m counter whole =
-      failing_satisfiable asked.script question p.defs.list p.goal asked.predicates asked.asks whole p.program m.stack
-      m.heap
+  model_of_counter : (m : Model) → IsCounterModel p m → IsSatisfiable asked.script
+  model_of_counter m counter =
+      failing_satisfiable asked.script question p.defs.list p.goal asked.predicates asked.asks p.program m.stack m.heap
       (subst (λ (a : SymbolicHeap). Satisfies p.defs.list m.stack m.heap a) (sym (ap antecedent counter.goal))
       counter.antecedent)
       (λ concludes. counter.none (subst (λ j. Concludes p.defs.list p.program j m.stack m.heap) counter.goal concludes))
@@ -104,8 +95,7 @@ module _ (input : List ℕ) (question : Question) (p : Problem) (spelled text : 
         over = over unsat_line text spelled (proof_text found.file) p is said.1;
         holds = proof.holds;
         shown = inl (found.file, proof, proof_readings.text_is_read found.file);
-        apart = no_model input question p asked proof.holds;
-        unsatisfiable = no_model_of_one input question p asked proof.holds;
+        unsatisfiable = no_model input question p asked proof.holds;
       })
   found_text ended Impossible none entails said =
       inl (record {
@@ -116,8 +106,7 @@ module _ (input : List ℕ) (question : Question) (p : Problem) (spelled text : 
         over = over unsat_line text spelled [] p is said.1;
         holds = none.holds;
         shown = inr (none.impossible, refl);
-        apart = no_model input question p asked none.holds;
-        unsatisfiable = no_model_of_one input question p asked none.holds;
+        unsatisfiable = no_model input question p asked none.holds;
       })
   found_text ended (Refuted (CounterModel m)) counter entails said =
       inr (record {
@@ -147,8 +136,8 @@ known_text input Satisfiability p spelled text ending is asked (inl can) =
       over = over sat_line text spelled [] p is can.2;
       possible = can.0;
       shown = inr (can.0, refl);
-      satisfiable = λ whole. possible_satisfiable asked.script Satisfiability p.defs.list p.goal asked.predicates
-          asked.asks whole refl can.0.0 can.0.1 can.0.2;
+      satisfiable = possible_satisfiable asked.script Satisfiability p.defs.list p.goal asked.predicates asked.asks
+          refl can.0.0 can.0.1 can.0.2;
     })
 known_text input Satisfiability p spelled text ending is asked (inr cannot) =
     inl (record {
@@ -159,9 +148,7 @@ known_text input Satisfiability p spelled text ending is asked (inr cannot) =
       over = over unsat_line text spelled [] p is cannot.2;
       holds = impossible_holds p.defs.list p.program p.goal cannot.0;
       shown = inr (cannot.0, refl);
-      apart = no_model input Satisfiability p asked (impossible_holds p.defs.list p.program p.goal cannot.0);
-      unsatisfiable = no_model_of_one input Satisfiability p asked
-          (impossible_holds p.defs.list p.program p.goal cannot.0);
+      unsatisfiable = no_model input Satisfiability p asked (impossible_holds p.defs.list p.program p.goal cannot.0);
     })
 
 solved_text : (input text : List ℕ) (ending : Status) → Answered ending → (solved : IsSolvedScript input ending text)

@@ -21,7 +21,6 @@ use Rattle.script_answers.specs.Asking.{IsGoalOfInput}
 use Rattle.script_answers.specs.Begins.{is_script_text}
 use Rattle.script_formulas.specs.declared.goals.question.Question.{Question}
 use Rattle.script_formulas.specs.Meaning.{IsSatisfiable}
-use Rattle.script_formulas.specs.Spread.{IsSatisfiableApart, HasOneSort}
 
 -- after the first line the text spells a proof of the goal that a check accepts
 pub record IsProofText (problem : Problem) (text : List ℕ) : Type 0 where
@@ -99,14 +98,8 @@ ShowsModel problem certificate =
     ((m : Model) × IsCounterModel problem m × models.IsRead certificate (Ok m))
     ⊎ (IsPossible problem × (certificate ≡ []))
 
--- no definition of the problem is divided among further ones
-abbrev pub IsUndivided : (input : List ℕ) (question : Question) (problem : Problem)
-    → IsGoalOfInput input question problem.defs.list problem.goal → Type 0
-IsUndivided input question problem asks = problem.defs.list ≡ asks.asks.called
-
 -- after `unsat` the text of a problem stands that asks what the script does, and whose goal holds, and what shows it;
--- then no heap in which sorts are apart satisfies the script, and none at all where its cells have locations of one
--- sort
+-- then nothing satisfies the script
 pub record IsUnsatText (input text : List ℕ) : Type 0 where
   pub question : Question
   pub problem : Problem
@@ -115,12 +108,10 @@ pub record IsUnsatText (input text : List ℕ) : Type 0 where
   pub over : IsOverProblem unsat_line text problem certificate
   pub holds : Holds problem
   pub shown : ShowsHolding problem certificate
-  pub apart : IsUndivided input question problem asks → ¬ IsSatisfiableApart asks.script
-  pub unsatisfiable : IsUndivided input question problem asks → HasOneSort asks.script → ¬ IsSatisfiable asks.script
+  pub unsatisfiable : ¬ IsSatisfiable asks.script
 
 -- after `sat` the text of a problem stands that asks what the script does, and whose antecedent something satisfies,
--- and
--- what shows it; then the script can be satisfied
+-- and what shows it; then something satisfies the script
 pub record IsSatText (input text : List ℕ) : Type 0 where
   pub question : Question
   pub problem : Problem
@@ -129,7 +120,7 @@ pub record IsSatText (input text : List ℕ) : Type 0 where
   pub over : IsOverProblem sat_line text problem certificate
   pub possible : IsPossible problem
   pub shown : ShowsModel problem certificate
-  pub satisfiable : IsUndivided input question problem asks → IsSatisfiable asks.script
+  pub satisfiable : IsSatisfiable asks.script
 
 -- the input begins as a script, and the text is one of these
 pub record ScriptIsSolved (input text : List ℕ) : Type 0 where

@@ -17,7 +17,10 @@ pub enum Unsupported {
     Universal,
     /// A variable that no quantifier binds, or a predicate or constructor that isn't there.
     Unbound,
-    /// Too many cases: more than 4,096 of a formula or of a predicate, more than 16 on the right.
+    /// A term that is not of the sort of its place.
+    Sorts,
+    /// Too many cases: more than 4,096 of a formula, more than 64 of a predicate or on the left, more than 16 on the
+    /// right.
     Cases,
     /// Too many quantified variables in one case.
     Quantifiers,

@@ -8,6 +8,7 @@ mod question;
 mod reached;
 mod refusal;
 mod same;
+mod sorts;
 mod succedents;
 mod translation;
 mod widths;

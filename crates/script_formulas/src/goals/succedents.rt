@@ -1,5 +1,5 @@
 // The goal of a problem.
-ghost use Rattle.std.specs.Prelude.{◌≡◌, [], ◌∷◌, map, vec_len, IfOk};
+ghost use Rattle.std.specs.Prelude.{◌≡◌, [], ◌∷◌, map, IfOk};
 ghost use Rattle.cyc_basics.specs.Limits.{AreLimits};
 ghost use Rattle.heap_formula.specs.declared.terms.Term.TheVariants.{Univ as constant_term};
 ghost use Rattle.script_formulas.specs.declared.goals.heaps.Variables.TheVariants.{Known as known};
@@ -98,9 +98,7 @@ fn called_antecedent(
     cases: &[Case],
 ) -> Result<Heap, Refused>
     requires { AreLimits most }
-    ensures called { IfOk result (λ h. IsCallOf numbers.now (vec_len building.new.parts ≡ 0) cases.now h
-        building.old.defs.list building.new.defs.list) }
-    ensures parts { IfOk result (λ _. vec_len building.new.parts ≡ 0 → vec_len building.old.parts ≡ 0) }
+    ensures { IfOk result (λ h. IsCallOf numbers.now cases.now h building.old.defs.list building.new.defs.list) }
 {
     let number = building.count();
     if number >= 4096 {
@@ -110,7 +108,7 @@ fn called_antecedent(
     let heap = call(alloc, most, number as u16, &listed)?;
     let variables = Variables::Listed(&listed);
     let heaps = heaps_of(alloc, most, numbers, variables, cases)?;
-    building.define("antecedent", listed.len(), heaps)?;
+    building.define(listed.len(), &heaps)?;
     Ok(heap)
 }
 
@@ -124,9 +122,8 @@ pub fn antecedent_of(
     cases: &[Case],
 ) -> Result<Heap, Refused>
     requires { AreLimits most }
-    ensures said { IfOk result (λ h. IsAntecedent numbers.now (vec_len building.new.parts ≡ 0) constants cases.now h
-        building.old.defs.list building.new.defs.list) }
-    ensures parts { IfOk result (λ _. vec_len building.new.parts ≡ 0 → vec_len building.old.parts ≡ 0) }
+    ensures { IfOk result (λ h. IsAntecedent numbers.now constants cases.now h building.old.defs.list
+        building.new.defs.list) }
 {
     let count = cases.len();
     if count == 0 {

@@ -1,10 +1,11 @@
 // A script as definitions and a goal.
-ghost use Rattle.std.specs.Prelude.{◌≡◌, [], map, length, vec_len, IfOk, OnOk};
+ghost use Rattle.std.specs.Prelude.{◌≡◌, [], map, length, IfOk, OnOk};
 ghost use Rattle.std.specs.List.{list_any};
 ghost use Rattle.cyc_basics.specs.Limits.{AreLimits};
 ghost use Rattle.script_formulas.specs.Formulas.{formula_of};
 ghost use Rattle.script_formulas.specs.Scope.{AreFine};
 ghost use Rattle.script_formulas.specs.Sides.{AreDenied, AreSides};
+ghost use Rattle.script_formulas.specs.Sorts.{IsSorted};
 ghost use Rattle.script_formulas.specs.Translating.{AreToldApart};
 ghost use Rattle.script_formulas.specs.Defining.{HasBody, AreDefinedIn, IsJudgement, IsAsked, IsGoalOf};
 
@@ -15,6 +16,7 @@ use crate::goals::heaps::{Numbers, Variables, heaps_of};
 use crate::goals::question::{Question, ScriptGoal};
 use crate::goals::reached::{Reached, reached_in};
 use crate::goals::refusal::{Place, ScriptRefusal, at};
+use crate::goals::sorts::check_sorts;
 use crate::goals::succedents::{antecedent_of, succedent_of};
 use crate::goals::widths::widths_of;
 use crate::{Predicate, Script};
@@ -78,10 +80,8 @@ fn define_predicate(
     predicate: &Predicate,
 ) -> Result<(), ScriptRefusal>
     requires { AreLimits most }
-    ensures body { OnOk result (HasBody numbers.now (vec_len building.new.parts ≡ 0)
-        (length predicate.now.parameters.items) (formula_of predicate.now.body) building.old.defs.list
-        building.new.defs.list) }
-    ensures parts { OnOk result (vec_len building.new.parts ≡ 0 → vec_len building.old.parts ≡ 0) }
+    ensures { OnOk result (HasBody numbers.now (length predicate.now.parameters.items)
+        (formula_of predicate.now.body) building.old.defs.list building.new.defs.list) }
 {
     let arity = predicate.parameters.len();
     if arity > 8 {
@@ -93,10 +93,7 @@ fn define_predicate(
     }
     let variables = Variables::Known(arity as u16);
     let heaps = at(place, heaps_of(alloc, most, numbers, variables, &cases))?;
-    at(
-        place,
-        building.define(predicate.name.as_str(), arity, heaps),
-    )?;
+    at(place, building.define(arity, &heaps))?;
     Ok(())
 }
 
@@ -124,8 +121,8 @@ fn define_predicates(
 ) -> Result<(), ScriptRefusal>
     requires none { building.old.defs.list ≡ [] }
     requires limits { AreLimits most }
-    ensures { OnOk result (AreDefinedIn script.now.predicates.items numbers.now (vec_len building.new.parts ≡ 0)
-        numbers.now.predicates.items building.new.defs.list) }
+    ensures { OnOk result (AreDefinedIn script.now.predicates.items numbers.now numbers.now.predicates.items
+        building.new.defs.list) }
 {
     for number in &numbers.predicates {
         let place = Place::Predicate(*number as usize);
@@ -147,11 +144,9 @@ fn definitions_of(
 ) -> Result<Building, ScriptRefusal>
     requires { AreLimits limits }
     ensures { IfOk result (λ building. AreDefinedIn script.now.predicates.items numbers.now
-        (vec_len building.parts ≡ 0) numbers.now.predicates.items building.defs.list) }
+        numbers.now.predicates.items building.defs.list) }
 {
-    let extra = if has_disjunction { 1 } else { 0 };
-    let most = numbers.predicates.len().saturating_add(extra);
-    let mut building = Building::new(alloc, limits, most);
+    let mut building = Building::new(alloc, limits);
     at(
         Place::Whole,
         name_predicates(&mut building, script, numbers),
@@ -172,9 +167,8 @@ fn judgement_of(
     sides: &Sides,
 ) -> Result<Judgement, Refused>
     requires { AreLimits most }
-    ensures judged { IfOk result (λ goal. IsJudgement numbers.now (vec_len building.new.parts ≡ 0) constants
-        sides.now.asserted.items sides.now.denied.items building.old.defs.list building.new.defs.list goal) }
-    ensures parts { IfOk result (λ _. vec_len building.new.parts ≡ 0 → vec_len building.old.parts ≡ 0) }
+    ensures { IfOk result (λ goal. IsJudgement numbers.now constants sides.now.asserted.items
+        sides.now.denied.items building.old.defs.list building.new.defs.list goal) }
 {
     if constants >= 65535 {
         return Err(Refused::Unsupported(Unsupported::Variables));
@@ -209,6 +203,7 @@ fn goal_of_sides(
         sides.now.asserted.items sides.now.denied.items }
     requires first { AreFine 0 sides.now.asserted.items }
     requires second { AreDenied sides.now.denied.items }
+    requires sorted { IsSorted script.now }
     ensures { IfOk result (λ g. IsGoalOf script.now g.question g.defs.list g.goal g.predicates.items) }
 {
     let most = version.limits();
@@ -219,7 +214,7 @@ fn goal_of_sides(
     let constants = script.constants.len();
     let goal = judgement_of(alloc, most, &mut building, &numbers, constants, sides);
     let goal = at(Place::Whole, goal)?;
-    let defs = at(Place::Whole, building.finished())?;
+    let defs = building.finished();
     let Numbers {
         fields: _,
         widths: _,
@@ -249,10 +244,11 @@ fn is_of_room(refusal: ScriptRefusal) -> bool {
 }
 
 /// The goal that asks what the script does, of version 2 of the formats or, where that has no room for it, of version
-/// 3; or the first cause found why there is none.
+/// 3; or the first cause found why there is none. A script that is not well sorted has none.
 pub fn goal_of_script(alloc: Global, script: &Script) -> Result<ScriptGoal, ScriptRefusal>
     ensures { IfOk result (λ g. IsGoalOf script.now g.question g.defs.list g.goal g.predicates.items) }
 {
+    check_sorts(alloc, script)?;
     let sides = sides_of(alloc, script)?;
     match goal_of_sides(alloc, Version::Two, script, &sides) {
         Ok(goal) => Ok(goal),

@@ -1,5 +1,5 @@
 use Rattle.std.proofs.Common.{◌≡◌, ◌∙◌, length, false, arith, sym, ap, subst}
-use Rattle.std.specs.Prelude.{IfOk, OnOk, vec_len}
+use Rattle.std.specs.Prelude.{IfOk, OnOk}
 use Rattle.std.specs.List.{list_any}
 use Rattle.std.proofs.lemmas.Grind.{common_steps}
 use Rattle.script_formulas.specs.declared.goals.heaps.Variables.TheVariants.{Known}
@@ -8,13 +8,12 @@ use Rattle.script_formulas.specs.Defining.{HasDefined}
 use Rattle.script_formulas.proofs.GoalSteps.{closed_all}
 use Rattle.script_formulas.proofs.goals.translation.define_predicate.Goals as goal
 
-pub returns-clause-body : goal.returns-clause-body
-returns-clause-body c =
+pub returns : goal.returns
+returns c =
     let arity = length c.args.predicate.now.parameters.items in
     let numbers = c.args.numbers.now in
     let before = c.args.building.now.defs.list in
     let now = c.define.new.self.defs.list in
-    let undivided = vec_len c.define.new.self.parts ≡ 0 in
     let cases = c.in_ok-cases.cases.items in
     let heaps = c.in_ok-heaps.heaps.items in
     let given = c.len-arity.result in
@@ -25,8 +24,8 @@ returns-clause-body c =
     c.in_ok-heaps.ensures c.heaps_of.ensures in
     let translated = subst (λ k. AreHeapsOf numbers (Known k) cases heaps) size
     (subst (λ l. AreHeapsOf numbers (Known given) l heaps) c.deref-2.ensures.value made) in
-    let defined = subst (λ r. OnOk r (HasDefined undivided before given heaps now)) c.in_ok-at.ensures
-    c.define.ensures.defined in (
+    let defined = subst (λ l. HasDefined before given l now) c.deref-3.ensures.value
+    (subst (λ r. OnOk r (HasDefined before given c.deref-3.result.now now)) c.in_ok-at.ensures c.define.ensures) in (
       defined.0,
       record {
         cases = cases;
@@ -41,8 +40,3 @@ returns-clause-body c =
       },
       defined.3,
     )
-
-pub returns-clause-parts : goal.returns-clause-parts
-returns-clause-parts c =
-    subst (λ r. OnOk r (vec_len c.define.new.self.parts ≡ 0 → vec_len c.args.building.now.parts ≡ 0)) c.in_ok-at.ensures
-    c.define.ensures.parts

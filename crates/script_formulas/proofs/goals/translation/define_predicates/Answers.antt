@@ -1,8 +1,7 @@
 use Rattle.std.proofs.Common.{◌≡◌, ◌∙◌, get_or, take, length, sym, ap, refl}
-use Rattle.std.specs.Prelude.{slice_get, vec_len}
+use Rattle.std.specs.Prelude.{slice_get}
 use Rattle.std.proofs.lemmas.Option.{slice_get_read}
 use Rattle.script_formulas.specs.Defining.{IsDefinedIn}
-use Rattle.script_formulas.proofs.GoalSteps.{weaker_all}
 use Rattle.script_formulas.proofs.Zipping.{zip_next}
 use Rattle.script_formulas.proofs.goals.translation.define_predicates.Goals as goal
 
@@ -13,15 +12,11 @@ loop-number-preserved c =
     let predicates = c.args.script.now.predicates.items in
     let predicate = c.in-Some.predicate.now in
     let seen = c.deref.result.now in
-    let more = c.in_ok-define_predicate.ensures.body in
-    let before = vec_len c.loop-number.building.parts ≡ 0 in
-    let after = vec_len c.define_predicate.new.building.parts ≡ 0 in
+    let more = c.in_ok-define_predicate.ensures in
     let numbers = c.args.numbers.now in
-    let known = weaker_all before after c.in_ok-define_predicate.ensures.parts predicates numbers (take i ps)
-    c.loop-number.building.defs.list c.loop-number.invariant in
     let looked = slice_get_read seen (length seen) (get_or ps i 0) predicate refl c.in-Some.ensures.lookup.3.0
     c.in-Some.ensures.lookup.1 in
     let found = ap (λ l. slice_get l (get_or ps i 0)) (sym c.deref.ensures.value) ∙ looked in
-    zip_next (IsDefinedIn predicates numbers after) ps i 0 c.loop-number.building.defs.list
-    c.define_predicate.new.building.defs.list more.0 c.loop-number-test.true more.2 known
+    zip_next (IsDefinedIn predicates numbers) ps i 0 c.loop-number.building.defs.list
+    c.define_predicate.new.building.defs.list more.0 c.loop-number-test.true more.2 c.loop-number.invariant
     (predicate, found, more.1)

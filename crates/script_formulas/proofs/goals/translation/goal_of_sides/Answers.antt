@@ -1,9 +1,8 @@
-use Rattle.std.proofs.Common.{◌≡◌, map, length, arith, subst, refl}
-use Rattle.std.specs.Prelude.{IfOk, vec_len}
+use Rattle.std.proofs.Common.{◌≡◌, map, length, arith, subst, refl, sym}
+use Rattle.std.specs.Prelude.{IfOk}
 use Rattle.std.proofs.lemmas.Grind.{common_steps}
 use Rattle.script_formulas.specs.Translating.{AreToldApart}
-use Rattle.script_formulas.specs.Defining.{IsAsked, IsJudgement, HasMore}
-use Rattle.script_formulas.proofs.GoalSteps.{weaker_all, weaker_judgement}
+use Rattle.script_formulas.specs.Defining.{IsAsked, IsJudgement}
 use Rattle.script_formulas.proofs.goals.translation.goal_of_sides.Goals as goal
 
 pub returns : goal.returns
@@ -12,27 +11,19 @@ returns c =
     let numbers = c.in_ok-numbers.numbers in
     let first = c.args.sides.now.asserted.items in
     let second = c.args.sides.now.denied.items in
-    let ds = c.in_ok-defs.defs.list in
     let own = c.in_ok-building.building.defs.list in
     let called = c.judgement_of-goal.new.building.defs.list in
-    let own_parts = vec_len c.in_ok-building.building.parts ≡ 0 in
-    let parts = vec_len c.judgement_of-goal.new.building.parts ≡ 0 in
-    let undivided = ds ≡ called in
     let question = c.in_ok-question.question in
     let given = c.len-constants.result in
     let size : given ≡ length script.constants.items = grind (arith, common_steps) in
-    let none : undivided → parts = subst (λ r. IfOk r (λ defs. defs.list ≡ called → parts)) c.in_ok-defs.ensures
-    c.finished.ensures.parts in
-    let before : parts → own_parts = subst (λ r. IfOk r (λ _. parts → own_parts)) c.in_ok-goal.ensures
-    c.judgement_of-goal.ensures.parts in
-    let judged = subst (λ r. IfOk r (λ goal. IsJudgement numbers parts given first second own called goal))
-    c.in_ok-goal.ensures c.judgement_of-goal.ensures.judged in
+    let judged = subst (λ r. IfOk r (λ goal. IsJudgement numbers given first second own called goal))
+    c.in_ok-goal.ensures c.judgement_of-goal.ensures in
     record {
+      sorted = c.requires.sorted;
       numbers = numbers;
       first = first;
       second = second;
       own = own;
-      called = called;
       sides = c.requires.sides;
       fine_first = c.requires.first;
       fine_second = c.requires.second;
@@ -42,11 +33,8 @@ returns c =
       used = refl;
       asked = subst (λ l. IsAsked question first l) c.deref-2.ensures.value (subst (λ l. IsAsked question l
           c.deref-2.result.now) c.deref.ensures.value c.in_ok-question.ensures);
-      defined = weaker_all own_parts undivided (λ e. before (none e)) script.predicates.items numbers
-          numbers.predicates.items own c.in_ok-building.ensures;
-      judged = weaker_judgement parts undivided none numbers (length script.constants.items) first second own called
-          c.in_ok-goal.goal (subst (λ n. IsJudgement numbers parts n first second own called c.in_ok-goal.goal) size
-          judged);
-      definitions = subst (λ r. IfOk r (λ defs. HasMore called defs.list)) c.in_ok-defs.ensures
-          c.finished.ensures.more;
+      defined = c.in_ok-building.ensures;
+      judged = subst (λ ds. IsJudgement numbers (length script.constants.items) first second own ds
+          c.in_ok-goal.goal) (sym c.finished-defs.ensures)
+          (subst (λ n. IsJudgement numbers n first second own called c.in_ok-goal.goal) size judged);
     }
