@@ -1,5 +1,5 @@
 -- Where all cases speak of the heap, and where there is one.
-use Rattle.std.proofs.Common.{◌≡◌, ◌≢◌, ℕ, Bool, true, false, ◌||◌, List, [], ◌∷◌, length, refl, ap}
+use Rattle.std.proofs.Common.{◌≡◌, ◌≢◌, Bool, true, false, ◌||◌, List, [], ◌∷◌, length, refl, ap}
 use Rattle.std.specs.List.{list_any}
 use Rattle.script_formulas.specs.Cases.{SymbolicCase}
 use Rattle.script_formulas.specs.Sides.{ClosedCases}

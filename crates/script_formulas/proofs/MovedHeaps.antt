@@ -5,8 +5,7 @@ use Rattle.std.specs.Prelude.{nat_eq, slice_get, slice_index}
 use Rattle.std.specs.Ordering.{nat_cmp, eq_by_cmp}
 use Rattle.std.specs.FinMap.{entries, get-entries, get-empty}
 use Rattle.std.specs.FinMap.Entries.{find}
-use Rattle.heap_formula.specs.Cells.{Cells, cell_at, no_cells, one_cell, Joins, IsUnion}
-use Rattle.heap_formula.specs.Values.{Stack}
+use Rattle.heap_formula.specs.Cells.{cell_at, no_cells, one_cell, Joins}
 use Rattle.heap_formula.proofs.Unions.{same_cells}
 use Rattle.heap_formula.proofs.HeapLaws.{one_cell_at}
 use Rattle.heap_formula.proofs.Insertions.{same_address, itself}

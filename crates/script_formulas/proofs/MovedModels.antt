@@ -1,6 +1,6 @@
 -- A model of a script is moved to one in which no two sorts have a location in common.
-use Rattle.std.proofs.Common.{◌≡◌, ℕ, zero, suc, ◌+◌, ◌<◌, ◌≤◌, max, Bool, true, false, cond, List, [], ◌∷◌, ◌++◌, map}
-use Rattle.std.proofs.Common.{length, get_or, Option, Some, None, refl, sym, ap, ◌∙◌, subst, arith, ◌⊎◌, inl, inr}
+use Rattle.std.proofs.Common.{◌≡◌, ℕ, zero, suc, ◌+◌, ◌<◌, ◌≤◌, max, Bool, true, false, cond, List, [], ◌∷◌, ◌++◌}
+use Rattle.std.proofs.Common.{length, Some, refl, sym, ap, ◌∙◌, subst, arith, inl, inr}
 use Rattle.std.specs.Prelude.{slice_get, slice_index}
 use Rattle.std.specs.List.{AllZip}
 use Rattle.std.specs.Ordering.{nat_cmp, eq_by_cmp}
@@ -24,7 +24,7 @@ use Rattle.script_formulas.specs.declared.script.Predicate.{Predicate}
 use Rattle.script_formulas.specs.declared.script.Script.{Script}
 use Rattle.script_formulas.specs.Formulas.{Formula, True, False, Empty, Says, Atom, Not, And, Or, Sep, Exists}
 use Rattle.script_formulas.specs.Formulas.{formula_of}
-use Rattle.script_formulas.specs.Heaps.{SortedCells, no_sorted_cells, one_sorted_cell, IsSortedCell}
+use Rattle.script_formulas.specs.Heaps.{SortedCells, one_sorted_cell}
 use Rattle.script_formulas.specs.Meaning.{SortedFamily, SortedAtomHolds, FormulaHolds, sorted_stage, sorted_least}
 use Rattle.script_formulas.specs.Meaning.{locations_of, bodies_of, AssertHolds, IsModel}
 use Rattle.script_formulas.specs.Sorts.{HasSort, IsSortedPure, IsSortedAtom, IsSortedFormula, IsSortedIn, IsSorted}
@@ -32,7 +32,7 @@ use Rattle.script_formulas.specs.Sorts.{sorts_of}
 use Rattle.script_formulas.specs.Spread.{IsApart}
 use Rattle.script_formulas.proofs.Exchange.{exchange, nil_stays, low_goes_up, exchanged_twice, offset, offset_far}
 use Rattle.script_formulas.proofs.Exchange.{offset_behind}
-use Rattle.script_formulas.proofs.MovedHeaps.{IsExchange, fields_at, fields_found, location_found, moved, moved_content}
+use Rattle.script_formulas.proofs.MovedHeaps.{IsExchange, fields_at, fields_found, location_found, moved}
 use Rattle.script_formulas.proofs.MovedHeaps.{moved_heap, moved_twice, moved_from, heap_twice, moved_none, moved_union}
 use Rattle.script_formulas.proofs.MovedHeaps.{moved_one, moved_value, moved_last, length_moved}
 use Rattle.script_formulas.proofs.SameQuestion.{body_found}

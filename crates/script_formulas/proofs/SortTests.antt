@@ -1,7 +1,7 @@
 -- What the tests of sorts tell.
-use Rattle.std.proofs.Common.{◌≡◌, ℕ, ◌+◌, Bool, true, false, ◌&&◌, List, [], ◌∷◌, ◌++◌, length, refl, sym, ap, ◌∙◌, subst}
+use Rattle.std.proofs.Common.{◌≡◌, ℕ, ◌+◌, Bool, true, false, ◌&&◌, List, [], ◌∷◌, ◌++◌, length, refl, ap, ◌∙◌}
 use Rattle.std.proofs.Common.{◌<◌, ◌≤◌, drop, get_or, arith}
-use Rattle.std.specs.Prelude.{Option, Some, None, slice_get, nat_eq, nat_lt}
+use Rattle.std.specs.Prelude.{Option, Some, None, slice_get, nat_lt}
 use Rattle.std.specs.List.{AllZip}
 use Rattle.std.proofs.lemmas.Bool.{eqb-true}
 use Rattle.std.proofs.lemmas.List.{drop_all, drop_more}
@@ -15,7 +15,7 @@ use Rattle.script_formulas.specs.declared.script.Constructor.{Constructor}
 use Rattle.script_formulas.specs.declared.script.Predicate.{Predicate}
 use Rattle.script_formulas.specs.Formulas.{Formula, True, False, Empty, Says, Atom, Not, And, Or, Sep, Exists}
 use Rattle.script_formulas.specs.Sorts.{HasSort, IsSortedPure, IsSortedAtom, IsSortedFormula, is_sort, has_sort}
-use Rattle.script_formulas.specs.Sorts.{have_sort, have_sorts, first_sort, are_alike, sorted_pure, sorted_cell}
+use Rattle.script_formulas.specs.Sorts.{have_sort, have_sorts, first_sort, sorted_pure, sorted_cell}
 use Rattle.script_formulas.specs.Sorts.{sorted_call, sorted_atom, sorted_formula}
 
 both : (a b : Bool) → (a && b) ≡ true → (a ≡ true) × (b ≡ true)

@@ -105,20 +105,45 @@ fn alternatives(alloc: Global, count: u16) -> Result<ScriptFormula, Fail> {
 }
 
 #[test]
-fn many_cases_are_spread(rt: HostRuntime) -> Result<(), Fail> {
+fn many_cases_stay_in_one_definition(rt: HostRuntime) -> Result<(), Fail> {
     let alloc = rt.alloc();
-    let script = segments(
-        alloc,
-        list(alloc, alternatives(alloc, 39)?)?,
-        Vec::new(alloc),
-    )?;
+    let asserted = list(alloc, alternatives(alloc, 39)?)?;
+    let script = segments(alloc, asserted, Vec::new(alloc))?;
     let found = problem(alloc, &script)?;
     let defs = found.problem.defs.as_slice();
-    assert_eq!(rt; defs.len(), 4);
-    assert_eq!(rt; defs[0].cases.heaps().len(), 3);
-    assert_eq!(rt; defs[1].cases.heaps().len(), 16);
-    assert_eq!(rt; defs[3].cases.heaps().len(), 8);
-    assert_eq!(rt; defs[2].name.as_text(), "antecedent_3");
+    assert_eq!(rt; defs.len(), 1);
+    assert_eq!(rt; defs[0].name.as_text(), "antecedent");
+    assert_eq!(rt; defs[0].cases.heaps().len(), 40);
+    Ok(())
+}
+
+#[test]
+fn a_65th_case_has_no_room(rt: HostRuntime) -> Result<(), Fail> {
+    let alloc = rt.alloc();
+    let asserted = list(alloc, alternatives(alloc, 64)?)?;
+    let script = segments(alloc, asserted, Vec::new(alloc))?;
+    assert_eq!(rt;
+        refusal(alloc, &script),
+        Some((Place::Whole, Unsupported::Cases))
+    );
+    Ok(())
+}
+
+#[test]
+fn terms_of_another_sort_are_refused(rt: HostRuntime) -> Result<(), Fail> {
+    let alloc = rt.alloc();
+    let asserted = list(alloc, cell(X, &[Y]))?;
+    let mut script = segments(alloc, asserted, list(alloc, equal(X, Y))?)?;
+    script.constants[1].sort = 1;
+    assert_eq!(rt;
+        refusal(alloc, &script),
+        Some((Place::Asserted(0), Unsupported::Sorts))
+    );
+    script.asserted = list(alloc, cell(X, &[X]))?;
+    assert_eq!(rt;
+        refusal(alloc, &script),
+        Some((Place::Denied(0), Unsupported::Sorts))
+    );
     Ok(())
 }
 

@@ -1,6 +1,6 @@
-use Rattle.std.proofs.Common.{◌≡◌, ◌+◌, ◌<◌, ◌≤◌, ◌&&◌, ◌∙◌, true, length, drop, sym, ap, arith}
+use Rattle.std.proofs.Common.{◌+◌, ◌<◌, ◌&&◌, ◌∙◌, length, drop, sym, ap, arith}
 use Rattle.script_formulas.specs.Sorts.{have_sorts}
-use Rattle.script_formulas.proofs.SortTests.{other_length, at_place, past_all}
+use Rattle.script_formulas.proofs.SortTests.{other_length, at_place}
 use Rattle.script_formulas.proofs.goals.sorts.have_sorts.Goals as goal
 
 pub returns-then-terms-sorts : goal.returns-then-terms-sorts

@@ -1,4 +1,4 @@
-use Rattle.std.proofs.Common.{◌≡◌, ◌∙◌, get_or, take, length, sym, ap, refl}
+use Rattle.std.proofs.Common.{◌∙◌, get_or, length, sym, ap, refl}
 use Rattle.std.specs.Prelude.{slice_get}
 use Rattle.std.proofs.lemmas.Option.{slice_get_read}
 use Rattle.script_formulas.specs.Defining.{IsDefinedIn}
