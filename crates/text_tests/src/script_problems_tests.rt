@@ -1,7 +1,6 @@
 // Scripts as problems.
 use crate::given::{call, cell, differ, equal, segments};
 use heap_formula::Judgement;
-use heap_syntax::Version;
 use script_formulas::problems::{
     Place, Question, ScriptProblem, ScriptRefusal, Unsupported, problem_of_script,
 };
@@ -106,7 +105,7 @@ fn alternatives(alloc: Global, count: u16) -> Result<ScriptFormula, Fail> {
 }
 
 #[test]
-fn many_cases_want_version_3(rt: HostRuntime) -> Result<(), Fail> {
+fn many_cases_stay_in_one_definition(rt: HostRuntime) -> Result<(), Fail> {
     let alloc = rt.alloc();
     let asserted = list(alloc, alternatives(alloc, 39)?)?;
     let script = segments(alloc, asserted, Vec::new(alloc))?;
@@ -115,7 +114,6 @@ fn many_cases_want_version_3(rt: HostRuntime) -> Result<(), Fail> {
     assert_eq!(rt; defs.len(), 1);
     assert_eq!(rt; defs[0].name.as_text(), "antecedent");
     assert_eq!(rt; defs[0].cases.heaps().len(), 40);
-    assert_eq!(rt; found.problem.version, Version::Three);
     Ok(())
 }
 
