@@ -268,7 +268,7 @@ fn finding_for(
 
 /// What is found of the question of an input, which speaks of a problem with this text; that nothing is found means
 /// nothing.
-pub fn finding(
+pub fn finding_of(
     alloc: Global,
     input: &[u8],
     plain: &[u8],

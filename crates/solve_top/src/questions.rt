@@ -9,7 +9,7 @@ ghost use Rattle.solve_top.specs.Answers.{IsFrameAnswer, IsFrameSaid};
 
 use crate::answers::{answer_to_text, certified};
 use crate::explanations::{Notes, Part};
-use crate::findings::{Finding, FoundFrame, finding};
+use crate::findings::{Finding, FoundFrame, finding_of};
 use crate::frameless::frameless_model;
 use crate::notes::{notes_on_model, notes_on_proof};
 use crate::possibilities::{Possibility, possibility_of_problem};
@@ -102,7 +102,7 @@ fn answer_to_possible(
     ensures said { IfOk result (λ a. IsFrameSaid problem.now a.status a.text.items) }
     ensures ending { IfOk result (λ a. is_answer a.status ≡ true) }
 {
-    match finding(alloc, input, plain, problem, effort)? {
+    match finding_of(alloc, input, plain, problem, effort)? {
         Finding::Frame(found) => answer_to_frame(alloc, problem, &found),
         Finding::NoFrame(model) => answer_to_model(alloc, plain, problem, &model),
         Finding::Nothing => answer_to_nothing(alloc, problem),
