@@ -11,3 +11,4 @@ mod SmallEntries
 pub mod FewPremises
 mod ExampleFaults
 mod ExampleFiles
+pub mod ProgramLinks
