@@ -261,6 +261,7 @@ command_is version most (commands.IfEq t u j) e = tt
 command_is version most (commands.IfNeq t u j) e = tt
 command_is version most (commands.Goto j) e = tt
 command_is version most commands.Stop e = tt
+command_is version most (commands.Ends bs) e = cc
 
 command_passes : (version : Version) (most : Limits) (c : Command) → IsCommandOf version most c
     → is_command_of version most c ≡ true
@@ -274,6 +275,7 @@ command_passes version most (commands.IfEq t u j) e = refl
 command_passes version most (commands.IfNeq t u j) e = refl
 command_passes version most (commands.Goto j) e = refl
 command_passes version most commands.Stop e = refl
+command_passes version most (commands.Ends bs) e = absurd e
 
 lines_exact : (version : Version) (most : Limits) (cs : List Command) → lines_excess version most cs ≡ None
     → Each (IsCommandOf version most) cs

@@ -67,6 +67,7 @@ command_prop (commands.IfNeq t u j) = ×_prop (universal_prop t) (universal_prop
 command_prop (commands.IfAny j) = Unit-prop
 command_prop (commands.Goto j) = Unit-prop
 command_prop commands.Stop = Unit-prop
+command_prop (commands.Ends bs) = Unit-prop
 
 of_version_prop : (version : Version) (limit : Limits) (c : Command) → IsProp (IsCommandOf version limit c)
 of_version_prop version limit (commands.Assign x t) = Unit-prop
@@ -79,6 +80,7 @@ of_version_prop version limit (commands.IfNeq t u j) = Unit-prop
 of_version_prop version limit (commands.IfAny j) = true_prop (has_free_branches version)
 of_version_prop version limit (commands.Goto j) = Unit-prop
 of_version_prop version limit commands.Stop = Unit-prop
+of_version_prop version limit (commands.Ends bs) = λ a b. absurd a
 
 stands_prop : (n i : ℕ) (c : Command) → IsProp (MayStandAt n i c)
 stands_prop n i (commands.Assign x t) = le_prop
@@ -91,6 +93,7 @@ stands_prop n i (commands.IfNeq t u j) = ×_prop le_prop (×_prop le_prop le_pro
 stands_prop n i (commands.IfAny j) = ×_prop le_prop (×_prop le_prop le_prop)
 stands_prop n i (commands.Goto j) = ×_prop le_prop le_prop
 stands_prop n i commands.Stop = Unit-prop
+stands_prop n i (commands.Ends bs) = Unit-prop
 
 program_prop : (lines : List Command) → IsProp (IsProgram lines)
 program_prop lines p q = λ i. record {

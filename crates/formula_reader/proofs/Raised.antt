@@ -79,6 +79,7 @@ module _ (least most : Limits) (wider : AreWithin least most) where
   command_raised version (commands.IfAny j) w = refl
   command_raised version (commands.Goto j) w = tt
   command_raised version commands.Stop w = tt
+  command_raised version (commands.Ends bs) w = w
 
   pub commands_raised : (version : Version) (cs : List Command) → Each (IsCommandOf version least) cs
       → Each (IsCommandOf Two most) cs

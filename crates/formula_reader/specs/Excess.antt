@@ -1,5 +1,5 @@
 -- The first limit of the formats that values pass, in the order of a text.
-use Rattle.std.specs.Prelude.{ℕ, ◌+◌, Bool, true, not, ◌&&◌, ◌||◌, nat_eq, nat_lt, nat_le, if◌then◌else◌, List, [], ◌∷◌}
+use Rattle.std.specs.Prelude.{ℕ, ◌+◌, Bool, true, false, not, ◌&&◌, ◌||◌, nat_eq, nat_lt, nat_le, if◌then◌else◌, List, [], ◌∷◌}
 use Rattle.std.specs.Prelude.{length, take, Option, Some, None, is_none}
 use Rattle.std.specs.List.{list_all}
 use Rattle.std.specs.Option.{option_map, option_or}
@@ -8,7 +8,7 @@ use Rattle.cyc_basics.specs.declared.limits.TheConstants.{MOST_ARGUMENTS}
 use Rattle.heap_formula.specs.declared.atoms.Spatial.{Spatial}
 use Rattle.heap_formula.specs.declared.atoms.Spatial.TheVariants.{Cell, Pred}
 use Rattle.heap_formula.specs.declared.commands.Command.{Command}
-use Rattle.heap_formula.specs.declared.commands.Command.TheVariants.{IfAny, Load, New, Store}
+use Rattle.heap_formula.specs.declared.commands.Command.TheVariants.{IfAny, Load, New, Store, Ends}
 use Rattle.heap_formula.specs.declared.judgements.Judgement.{Judgement}
 use Rattle.heap_formula.specs.declared.judgements.Judgement.TheVariants.{Entail, Term as Runs}
 use Rattle.heap_formula.specs.Definitions.{Definition}
@@ -93,6 +93,7 @@ is_command_of version most (IfAny j) = has_free_branches version
 is_command_of version most (Load x t k) = nat_le k most.arguments
 is_command_of version most (Store t k u) = nat_le k most.arguments
 is_command_of version most (New x k) = nat_le k most.arguments
+is_command_of version most (Ends bs) = false
 is_command_of version most c = true
 
 abbrev pub line_at : Version → Limits → ℕ → Command → Option ProblemExcess

@@ -3,7 +3,7 @@ use Rattle.std.specs.Prelude.{◌≡◌, ℕ, ◌≤◌, true, List, length, Som
 use Rattle.cyc_basics.specs.declared.limits.Limits.{Limits}
 use Rattle.cyc_basics.specs.declared.limits.TheConstants.{MOST_PREDICATES}
 use Rattle.heap_formula.specs.declared.commands.Command.{Command}
-use Rattle.heap_formula.specs.declared.commands.Command.TheVariants.{IfAny, Load, New, Store}
+use Rattle.heap_formula.specs.declared.commands.Command.TheVariants.{IfAny, Load, New, Store, Ends}
 use Rattle.heap_formula.specs.declared.judgements.Judgement.{Judgement}
 use Rattle.heap_formula.specs.Definitions.{Definition}
 use Rattle.heap_formula.specs.Words.{Each}
@@ -23,12 +23,13 @@ abbrev pub HaveOwnNames : List Definition → Type 0
 HaveOwnNames ds =
     (p q : ℕ) (d e : Definition) → slice_get ds p ≡ Some d → slice_get ds q ≡ Some e → d.name ≡ e.name → p ≡ q
 
--- the version has the command, and cells may have the field, or as many
+-- the version has the command, and cells may have the field, or as many; the grammar has no ends yet
 abbrev pub IsCommandOf : Version → Limits → Command → Type 0
 IsCommandOf version most (IfAny j) = has_free_branches version ≡ true
 IsCommandOf version most (Load x t k) = k ≤ most.arguments
 IsCommandOf version most (Store t k u) = k ≤ most.arguments
 IsCommandOf version most (New x k) = k ≤ most.arguments
+IsCommandOf version most (Ends bs) = ⊥
 IsCommandOf version most c = Unit {0}
 
 -- the definitions, the program and the goal are within these limits, the version has the program's commands, and each

@@ -131,6 +131,7 @@ command_small n i (commands.IfNeq t v j) u e =
 command_small n i (commands.IfAny j) u e = tt
 command_small n i (commands.Goto j) u e = tt
 command_small n i commands.Stop u e = tt
+command_small n i (commands.Ends bs) u e = tt
 
 line_small : (n i : ℕ) (l : ℕ × Command) → IsUniversalCommand l.1 → line_fault n i l ≡ None → IsSmallLine l
 line_small n i l u e =

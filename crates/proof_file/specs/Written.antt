@@ -46,6 +46,7 @@ store_tree terms.Nil k u = StoreAtNil k (operand_tree u)
 store_tree (terms.Univ x) k u = Change x (changes.Store k (operand_tree u))
 store_tree (terms.Exist x) k u = StoreAtNil k (operand_tree u)
 
+-- the grammar has no ends yet: a program that a text says has none
 abbrev pub command_tree : Command → CommandTree ℕ
 command_tree commands.Stop = Stop
 command_tree (commands.IfAny j) = IfAny j
@@ -57,6 +58,7 @@ command_tree (commands.New x k) = Change x (changes.New k)
 command_tree (commands.Assign x t) = Change x (changes.Assign (operand_tree t))
 command_tree (commands.Load x t k) = Change x (changes.Load (operand_tree t) k)
 command_tree (commands.Store t k u) = store_tree t k u
+command_tree (commands.Ends bs) = Stop
 
 -- the lines with these commands, of which n stand before
 abbrev pub lines_behind : ℕ → List Command → List Line

@@ -142,7 +142,7 @@ module _ (t : Theory) (goal : Judgement) (limits : IsWithinLimits t goal) where
   premises_occur nodes g (Step rule) ps occur allowed h k p at =
       let a = answer_of (rule_answer t.most t.definitions t.lines g.premise.judgement rule) ps h in
       let each = premises_within t.most t.definitions t.lines g.premise.judgement rule a.premises limits.definitions
-      limits.program occur.goal allowed a.is_answer in
+      limits.program limits.ends occur.goal allowed a.is_answer in
       each_at (λ (q : Subgoal Judgement). Occurs t q.judgement) (map traced a.premises) k p
       (subst (λ qs. slice_get qs k ≡ Some p) (sym a.are) at)
       (each_mapped (λ (q : Subgoal Judgement). Occurs t q.judgement) traced a.premises each)

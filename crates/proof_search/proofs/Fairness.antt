@@ -18,8 +18,9 @@ use Rattle.heap_formula.specs.Judgements.{antecedent}
 use Rattle.heap_formula.specs.Words.{Each}
 use Rattle.rule_table.specs.Answer.{Answer}
 use Rattle.rule_table.specs.Fits.{IsPredAt, PairsFit, PremiseFits, OnPremises}
-use Rattle.rule_table.specs.LinkTable.{link_fault, link_premise}
-use Rattle.rule_table.specs.RuleBook.{variables_of, rule_answer}
+use Rattle.rule_table.specs.LinkTable.{link_premise}
+use Rattle.rule_book.proofs.ProgramLinks.{program_link_parts}
+use Rattle.rule_table.specs.RuleBook.{variables_of, rule_answer, program_link_fault}
 use Rattle.rule_table.proofs.AllFit.{rule_fits, link_fits}
 use Rattle.heap_formula.proofs.AllMembers.{each_at}
 use Rattle.rule_book.proofs.Few.{few_premises}
@@ -81,7 +82,7 @@ answered_premises t g (Ok qs) ps short stay fit few h =
 -- an edge of a link leads to a node made; there is one only without a fault
 edge_back : (t : Theory) (nodes : List MadeNode) (g : OpenGoal) (link : Link) (m : MadeNode) (e : Edge)
     (f : Option RuleFault) → slice_get nodes link.target ≡ Some m
-    → link_fault g.premise.judgement (judgement_of m) link (variables_of t.lines g.premise.judgement) ≡ f
+    → program_link_fault t.lines g.premise.judgement (judgement_of m) link ≡ f
     → edge_unless f (judgement_of m) link ≡ Some e →
     IsBack (calculus_of t) nodes g e
 edge_back t nodes g link m e (Some f) at is h = absurd (let x : None ≡ Some e = h in cc)
@@ -93,15 +94,15 @@ edge_back t nodes g link m e None at is h =
       is_node = at;
       fit = pairs_in (antecedent g.premise.judgement).spatial (antecedent (judgement_of m)).spatial
           (link_premise (judgement_of m) link).pairs (link_fits g.premise.judgement (judgement_of m) link
-          (variables_of t.lines g.premise.judgement) is);
+          (variables_of t.lines g.premise.judgement)
+          (program_link_parts t.lines g.premise.judgement (judgement_of m) link is).0);
     })
 
 link_back : (t : Theory) (nodes : List MadeNode) (g : OpenGoal) (link : Link) (e : Edge) (o : Option MadeNode)
     → slice_get nodes link.target ≡ o → edge_to t g.premise.judgement link o ≡ Some e → IsBack (calculus_of t) nodes g e
 link_back t nodes g link e None at h = absurd (let x : None ≡ Some e = h in cc)
 link_back t nodes g link e (Some m) at h =
-    edge_back t nodes g link m e (link_fault g.premise.judgement (judgement_of m) link
-    (variables_of t.lines g.premise.judgement)) at refl h
+    edge_back t nodes g link m e (program_link_fault t.lines g.premise.judgement (judgement_of m) link) at refl h
 
 -- a link has no premises
 pub beside_none : (o : Option Edge) (ps : List (Subgoal Judgement)) → none_beside o ≡ Some ps → ps ≡ []

@@ -16,11 +16,12 @@ use Rattle.proof_search.proofs.Members.{each_passes}
 use Rattle.proof_search.proofs.LinksWithin.{all_offered, links_target}
 use Rattle.heap_formula.proofs.AllMembers.{each_imply, each_both}
 use Rattle.cyc_basics.proofs.Options.{none_is}
+use Rattle.rule_book.proofs.ProgramLinks.{program_link_none}
 
 pub links_fit : (t : Theory) (nodes : List GraphNode) (goal : ℕ) (j : Judgement)
     → Each (IsLinked t nodes j) (links_offered t nodes goal j)
 links_fit t nodes goal j =
-    all_offered (IsLinked t nodes j) t nodes goal j (λ k node lt e.
+    all_offered (IsLinked t nodes j) t nodes goal j (λ k node lt e whole.
     let p = variables_of t.lines j in
     let passes : Link → Bool = λ link. is_none (link_fault j node.judgement link p) in
     let found = links j node.judgement k p in
@@ -28,7 +29,7 @@ links_fit t nodes goal j =
     (λ link h. (
       node,
       subst (λ v. slice_get nodes v ≡ Some node) (sym h.0) e,
-      none_is (link_fault j node.judgement link p) h.1,
+      program_link_none t.lines j node.judgement link (none_is (link_fault j node.judgement link p) h.1) whole,
     )) found
     (each_both (λ (link : Link). link.target ≡ k) (λ (link : Link). passes link ≡ true) found
     (links_target j node.judgement k p) (each_passes passes (candidates j node.judgement k))))

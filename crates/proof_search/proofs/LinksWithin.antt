@@ -1,6 +1,6 @@
 -- The links that a goal within the limits is offered are within them, and lead to nodes before the goal.
 use Rattle.std.proofs.Common.{◌≡◌, ℕ, ◌+◌, ◌<◌, ◌≤◌, List, [], ◌∷◌, map, length, length-take, take, Some, refl, sym}
-use Rattle.std.proofs.Common.{subst, arith}
+use Rattle.std.proofs.Common.{subst, arith, Bool, true, false, if◌then◌else◌}
 use Rattle.std.proofs.lemmas.Option.{slice_get_within}
 use Rattle.std.specs.Prelude.{slice_get}
 use Rattle.std.specs.List.{flat_map, range_with_len}
@@ -14,12 +14,12 @@ use Rattle.heap_formula.specs.Fresh.{judgement_bound}
 use Rattle.heap_formula.specs.Substitution.{Bindings}
 use Rattle.heap_formula.specs.Words.{Each}
 use Rattle.rule_table.specs.LinkTable.{link_fault}
-use Rattle.rule_table.specs.RuleBook.{variables_of}
+use Rattle.rule_table.specs.RuleBook.{variables_of, leaves_nothing}
 use Rattle.back_links.specs.Listing.{stands_in, universals, selections, value_choices, values_of, maps, substitutions}
 use Rattle.back_links.specs.Listing.{covers, link_of, links, candidates as choices_of}
 use Rattle.proof_graph.specs.declared.nodes.GraphNode.{GraphNode}
 use Rattle.search_moves.specs.Trying.{Theory}
-use Rattle.search_moves.specs.Offering.{is_companion, links_to, candidates, rules_before, links_offered}
+use Rattle.search_moves.specs.Offering.{is_companion, links_to, whole_links, candidates, rules_before, links_offered}
 use Rattle.rule_book.specs.Limits.{IsJudgementWithin, IsTermWithin, IsPairWithin, IsReasonWithin}
 use Rattle.proof_search.proofs.Members.{each_if, each_filter, each_unless_some, each_flat_map, each_placed}
 use Rattle.proof_search.proofs.HeapTerms.{judgement_below}
@@ -84,17 +84,23 @@ links_each P Q bud companion target p subs h =
 -- what holds of each link to a node before the goal holds of each that is offered
 offered_each : (P : Link → Type 0) (most : ℕ) (t : Theory) (nodes : List GraphNode) (goal : ℕ) (j : Judgement)
     → ((k : ℕ) (node : GraphNode) → k < goal → slice_get nodes k ≡ Some node
-    → Each P (links j node.judgement k (variables_of t.lines j))) → (k : ℕ) (node : GraphNode)
-    → slice_get (take goal nodes) k ≡ Some node → Each P (links_to most t.lines j k node)
+    → leaves_nothing t.lines j node.judgement ≡ true → Each P (links j node.judgement k (variables_of t.lines j)))
+    → (k : ℕ) (node : GraphNode) → slice_get (take goal nodes) k ≡ Some node → Each P (links_to most t.lines j k node)
 offered_each P most t nodes goal j h k node e =
-    let found = links j node.judgement k (variables_of t.lines j) in
     let less : k < goal = omega (arith, slice_get_within (take goal nodes) k node e, length-take goal nodes) in
-    each_if P (is_companion j node) (take most found)
-    (each_take P most found (h k node less (get_taken nodes goal k node e)))
+    each_if P (is_companion j node) (whole_links most t.lines j k node.judgement)
+    (whole less (leaves_nothing t.lines j node.judgement) refl)
+  where
+    whole : k < goal → (b : Bool) → leaves_nothing t.lines j node.judgement ≡ b
+        → Each P (if b then take most (links j node.judgement k (variables_of t.lines j)) else [])
+    whole less true w = each_take P most (links j node.judgement k (variables_of t.lines j))
+        (h k node less (get_taken nodes goal k node e) w)
+    whole less false w = tt
 
 pub all_offered : (P : Link → Type 0) (t : Theory) (nodes : List GraphNode) (goal : ℕ) (j : Judgement)
     → ((k : ℕ) (node : GraphNode) → k < goal → slice_get nodes k ≡ Some node
-    → Each P (links j node.judgement k (variables_of t.lines j))) → Each P (links_offered t nodes goal j)
+    → leaves_nothing t.lines j node.judgement ≡ true → Each P (links j node.judgement k (variables_of t.lines j)))
+    → Each P (links_offered t nodes goal j)
 all_offered P t nodes goal j h =
     each_unless_some P (rules_before t j) (candidates t.lines nodes goal j)
     (each_placed P (links_to 1000000 t.lines j) (take goal nodes) (offered_each P 1000000 t nodes goal j h))
@@ -105,7 +111,7 @@ pub links_within : (t : Theory) (nodes : List GraphNode) (goal : ℕ) (j : Judge
     → IsJudgementWithin t.most t.definitions (length t.lines) node.judgement)
     → Each (λ (link : Link). IsReasonWithin t.most t.definitions (Back link)) (links_offered t nodes goal j)
 links_within t nodes goal j w ws =
-    all_offered (λ (link : Link). IsReasonWithin t.most t.definitions (Back link)) t nodes goal j (λ k node lt e.
+    all_offered (λ (link : Link). IsReasonWithin t.most t.definitions (Back link)) t nodes goal j (λ k node lt e whole.
     links_each (λ (link : Link). IsReasonWithin t.most t.definitions (Back link)) (Each IsPairWithin) j node.judgement k
     (variables_of t.lines j)
     (substitutions_within j node.judgement (judgement_below t.most t.definitions j w.heaps)

@@ -9,8 +9,7 @@ use Rattle.heap_formula.specs.declared.judgements.Pair.{Pair}
 use Rattle.heap_formula.specs.declared.proof_rules.Reason.{Reason}
 use Rattle.heap_formula.specs.declared.proof_rules.Reason.TheVariants.{Step, Back}
 use Rattle.heap_formula.specs.declared.proof_rules.RuleFault.{RuleFault}
-use Rattle.rule_table.specs.LinkTable.{link_fault}
-use Rattle.rule_table.specs.RuleBook.{variables_of}
+use Rattle.rule_table.specs.RuleBook.{program_link_fault}
 use Rattle.trace_pairs.specs.Graph.{Node, Edge}
 use Rattle.buchi_inclusion.specs.Leaf.{add_edge}
 use Rattle.proof_graph.specs.declared.nodes.GraphPremise.{GraphPremise}
@@ -199,8 +198,7 @@ first_filled t nodes g (Back link) ps h = by (slice_get nodes link.target) h
         → filled (link_pairs link o) (link_edges (edge_to t g.premise.judgement link o))
         ≡ premises_of (Some link.target) (link_pairs link o)
     by None h = absurd (let e : None ≡ Some ps = h in cc)
-    by (Some m) h = at m (link_fault g.premise.judgement (judgement_of m) link
-        (variables_of t.lines g.premise.judgement)) h
+    by (Some m) h = at m (program_link_fault t.lines g.premise.judgement (judgement_of m) link) h
 
 -- the goal as a node with its reason
 made_graph_is : (t : Theory) (nodes : List MadeNode) (g : OpenGoal) (r : Reason) (ps : List (Subgoal Judgement))

@@ -161,13 +161,15 @@ pub same_about : (problem : Problem) (moves : Derivation) → moves.defs ≡ pro
 same_about problem moves d p g = λ i. (d i, (p i, g i))
 
 pub within : (problem : Problem) → Each (IsDefinitionWithin problem.defs.most problem.defs.list) problem.defs.list
-    → IsProgram problem.program → IsJudgementWithin problem.defs.most problem.defs.list (length problem.program)
-    problem.goal → IsWithinLimits (theory_for problem) problem.goal
-within problem definitions program goal = record {
+    → IsProgram problem.program → AreEndsWithin problem.defs.most problem.defs.list problem.program
+    → IsJudgementWithin problem.defs.most problem.defs.list (length problem.program) problem.goal
+    → IsWithinLimits (theory_for problem) problem.goal
+within problem definitions program ends goal = record {
   some = limit_positive problem;
   most = limit_bounded problem;
   definitions = definitions;
   program = program;
+  ends = ends;
   goal_within = goal;
 }
 

@@ -5,8 +5,8 @@ use Rattle.std.specs.Option.{option_map}
 use Rattle.heap_formula.specs.declared.proof_rules.Reason.{Reason}
 use Rattle.heap_formula.specs.declared.proof_rules.Reason.TheVariants.{Step, Back}
 use Rattle.heap_formula.specs.declared.proof_rules.RuleFault.{RuleFault}
-use Rattle.rule_table.specs.LinkTable.{link_fault, link_premise}
-use Rattle.rule_table.specs.RuleBook.{variables_of}
+use Rattle.rule_table.specs.LinkTable.{link_premise}
+use Rattle.rule_table.specs.RuleBook.{program_link_fault}
 use Rattle.rule_book.specs.Answers.{unless_fault, link_answer, reason_answer, companion_in}
 use Rattle.search_moves.specs.Trying.{Theory}
 use Rattle.proof_search.specs.Calculus.{OpenGoal, MadeNode, judgement_of, answered, edge_unless, edge_to, none_beside}
@@ -27,5 +27,4 @@ module _ (t : Theory) (nodes : List MadeNode) (g : OpenGoal) where
       by_node : (o : Option MadeNode) → link_answer t.lines g.premise.judgement link (option_map judgement_of o) ≡ Err f
           → none_beside (edge_to t g.premise.judgement link o) ≡ None
       by_node None e = refl
-      by_node (Some m) e = by_fault m (link_fault g.premise.judgement (judgement_of m) link
-          (variables_of t.lines g.premise.judgement)) e
+      by_node (Some m) e = by_fault m (program_link_fault t.lines g.premise.judgement (judgement_of m) link) e

@@ -9,8 +9,7 @@ use Rattle.heap_formula.specs.declared.proof_rules.Reason.{Reason}
 use Rattle.heap_formula.specs.declared.proof_rules.Reason.TheVariants.{Step, Back}
 use Rattle.heap_formula.specs.declared.proof_rules.RuleFault.{RuleFault}
 use Rattle.rule_table.specs.Answer.{Answer}
-use Rattle.rule_table.specs.LinkTable.{link_fault}
-use Rattle.rule_table.specs.RuleBook.{variables_of, rule_answer}
+use Rattle.rule_table.specs.RuleBook.{variables_of, rule_answer, program_link_fault}
 use Rattle.trace_pairs.specs.Graph.{Edge}
 use Rattle.search_moves.specs.Trying.{Theory}
 use Rattle.derivations.specs.Tableau.{Subgoal}
@@ -78,8 +77,7 @@ reason_first t before g (Back link) done left es h size each = by (slice_get bef
     by : (o : Option MadeNode) → none_beside (edge_to t g.premise.judgement link o) ≡ Some (done ++ left)
         → AreFirst (link_edges (edge_to t g.premise.judgement link o) ++ es) (link_pairs link o)
     by None h = absurd (let e : None ≡ Some (done ++ left) = h in cc)
-    by (Some m) h = at m (link_fault g.premise.judgement (judgement_of m) link
-        (variables_of t.lines g.premise.judgement)) h
+    by (Some m) h = at m (program_link_fault t.lines g.premise.judgement (judgement_of m) link) h
 
 -- ---- numbers
 

@@ -7,8 +7,8 @@ use Rattle.heap_formula.specs.declared.proof_rules.Reason.{Reason}
 use Rattle.heap_formula.specs.declared.proof_rules.Reason.TheVariants.{Step, Back}
 use Rattle.heap_formula.specs.declared.proof_rules.RuleFault.{RuleFault}
 use Rattle.rule_table.specs.Answer.{Answer}
-use Rattle.rule_table.specs.LinkTable.{link_fault, link_premise}
-use Rattle.rule_table.specs.RuleBook.{variables_of, rule_answer}
+use Rattle.rule_table.specs.LinkTable.{link_premise}
+use Rattle.rule_table.specs.RuleBook.{variables_of, rule_answer, program_link_fault}
 use Rattle.trace_pairs.specs.Graph.{Node, Edge}
 use Rattle.proof_graph.specs.Traces.{positions_of}
 use Rattle.logics.specs.Logics.{LogicValue}
@@ -42,7 +42,7 @@ module _ (t : Theory) where
   to_same : (bud : Judgement) (link : Link) (o : Option MadeNode)
       → edge_to t bud link o ≡ edge_in logic bud (Back link) link.target o
   to_same bud link None = refl
-  to_same bud link (Some m) = edge_same (link_fault bud (judgement_of m) link (variables_of t.lines bud))
+  to_same bud link (Some m) = edge_same (program_link_fault t.lines bud (judgement_of m) link)
       (judgement_of m) link
 
   premises_same : (nodes : List MadeNode) (g : OpenGoal) (r : Reason)

@@ -11,8 +11,8 @@ use Rattle.heap_formula.specs.declared.proof_rules.RuleFault.{RuleFault}
 use Rattle.heap_formula.specs.Words.{Each}
 use Rattle.heap_formula.proofs.Members.{each_from}
 use Rattle.rule_table.specs.Answer.{Answer}
-use Rattle.rule_table.specs.LinkTable.{link_fault, link_premise}
-use Rattle.rule_table.specs.RuleBook.{variables_of, rule_answer}
+use Rattle.rule_table.specs.LinkTable.{link_premise}
+use Rattle.rule_table.specs.RuleBook.{variables_of, rule_answer, program_link_fault}
 use Rattle.rule_book.specs.Limits.{HasShortNumbers, IsShortNumber}
 use Rattle.rule_book.proofs.Shorts.{rule_short, link_short}
 use Rattle.trace_pairs.specs.Graph.{Edge, Pair}
@@ -27,6 +27,7 @@ use Rattle.derivations.specs.LogicNodes.{numbers_by, proof_nodes}
 use Rattle.derivations.proofs.LogicMade.{IsBy, AreNodes}
 use Rattle.derivations.proofs.LogicRows.{row_of}
 use Rattle.proof_search.specs.Calculus.{MadeNode, judgement_of}
+use Rattle.rule_book.proofs.ProgramLinks.{program_link_parts}
 use Rattle.proof_search.specs.Found.{IsWithinLimits}
 use Rattle.proof_search.proofs.Fair.{Occurs, Allows}
 use Rattle.proof_search.proofs.SearchLogic.{logic}
@@ -61,8 +62,9 @@ module _ (t : Theory) (goal : Judgement) (limits : IsWithinLimits t goal) (b : T
   reason_short v j (Back link) es within by =
       let less = slice_get_within b.nodes link.target by.companion by.is_companion in
       let k = judgement_of by.companion in
-      let none = no_fault (link_fault j k link (variables_of t.lines j)) (link_premise k link) by.pairs by.is in
-      link_short t.most t.definitions (length t.lines) (variables_of t.lines j) j k link limits.most within none
+      let none = no_fault (program_link_fault t.lines j k link) (link_premise k link) by.pairs by.is in
+      link_short t.most t.definitions (length t.lines) (variables_of t.lines j) j k link limits.most within
+      (program_link_parts t.lines j k link none).0
       (omega arith)
 
   numbers_short : (v : ℕ) (j : Judgement) (r : Reason) (o : Option ℕ) (es : List Edge)

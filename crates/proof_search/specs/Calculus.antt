@@ -8,8 +8,8 @@ use Rattle.heap_formula.specs.declared.proof_rules.Reason.{Reason}
 use Rattle.heap_formula.specs.declared.proof_rules.Reason.TheVariants.{Step, Back}
 use Rattle.heap_formula.specs.declared.proof_rules.RuleFault.{RuleFault}
 use Rattle.rule_table.specs.Answer.{Answer}
-use Rattle.rule_table.specs.LinkTable.{link_fault, link_premise}
-use Rattle.rule_table.specs.RuleBook.{variables_of, rule_answer}
+use Rattle.rule_table.specs.LinkTable.{link_premise}
+use Rattle.rule_table.specs.RuleBook.{rule_answer, program_link_fault}
 use Rattle.trace_pairs.specs.Graph.{Edge}
 use Rattle.proof_graph.specs.Traces.{positions_of, trace_edge}
 pub use Rattle.rule_book.specs.SeparationLogic.{traced}
@@ -43,7 +43,7 @@ edge_unless (Some f) companion link = None
 
 abbrev pub edge_to : Theory → Judgement → Link → Option MadeNode → Option Edge
 edge_to t bud link None = None
-edge_to t bud link (Some m) = edge_unless (link_fault bud (judgement_of m) link (variables_of t.lines bud))
+edge_to t bud link (Some m) = edge_unless (program_link_fault t.lines bud (judgement_of m) link)
     (judgement_of m) link
 
 -- where a link without a fault leads to: one of the nodes made

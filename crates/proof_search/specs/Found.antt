@@ -10,7 +10,7 @@ use Rattle.trace_pairs.specs.Lasso.{AllProgress}
 use Rattle.buchi_inclusion.specs.Answers.{HasAtMost, state_limit}
 use Rattle.proof_file.specs.FileNodes.{FileNode}
 use Rattle.proof_check.specs.Files.{graph_of, AreRight}
-use Rattle.rule_book.specs.Limits.{IsDefinitionWithin, IsJudgementWithin}
+use Rattle.rule_book.specs.Limits.{IsDefinitionWithin, IsJudgementWithin, AreEndsWithin}
 use Rattle.formula_reader.specs.Nodes.{IsNodeWithin}
 use Rattle.search_moves.specs.Trying.{Theory}
 use Rattle.derivations.specs.Tableau.{Tableau, replay}
@@ -23,6 +23,7 @@ pub record IsWithinLimits (t : Theory) (goal : Judgement) : Type 0 where
   pub most : AreLimits t.most
   pub definitions : Each (IsDefinitionWithin t.most t.definitions) t.definitions
   pub program : IsProgram t.lines
+  pub ends : AreEndsWithin t.most t.definitions t.lines
   pub goal_within : IsJudgementWithin t.most t.definitions (length t.lines) goal
 
 -- the nodes are a correct proof of the goal, may stand in a file, and have few product states

@@ -143,12 +143,12 @@ impl<'a> Exploration<'a> {
         }
     }
 
-    /// The command at a state.
-    fn command(&self, config: &Config) -> Command {
+    /// The command at a state, `stop` past the last line.
+    fn command(&self, config: &Config) -> &Command {
         let place = (config.line as usize).saturating_sub(1);
         match self.program.lines().get(place) {
-            Some(command) => *command,
-            None => Command::Stop,
+            Some(command) => command,
+            None => &Command::Stop,
         }
     }
 
@@ -157,7 +157,7 @@ impl<'a> Exploration<'a> {
             return Ok(());
         };
         if let Command::IfEq(t, u, _) | Command::IfNeq(t, u, _) = self.command(&visit.config) {
-            let (a, b) = (value_of(&visit.config, t), value_of(&visit.config, u));
+            let (a, b) = (value_of(&visit.config, *t), value_of(&visit.config, *u));
             let pair = (a.min(b), a.max(b));
             if a != b && !self.compared.contains(&pair) {
                 self.compared.push(pair)?;

@@ -110,6 +110,7 @@ command_known (commands.IfNeq t u j) e =
 command_known (commands.IfAny j) e = refl
 command_known (commands.Goto j) e = refl
 command_known commands.Stop e = refl
+command_known (commands.Ends bs) e = cc
 
 pub commands_known : (n : ℕ) (cs : List Command) → are_universal_commands cs ≡ true
     → program_value (lines_behind n cs) ≡ cs

@@ -130,6 +130,7 @@ command_known Three most (commands.IfNeq t u j) w = tt
 command_known Three most (commands.IfAny j) w = refl
 command_known Three most (commands.Goto j) w = tt
 command_known Three most commands.Stop w = tt
+command_known Three most (commands.Ends bs) w = w
 
 -- the version of its run files
 abbrev pub run_version : Problem → ModelVersion
@@ -173,4 +174,5 @@ module _ (p : Problem) (i : ℕ) (a : SymbolicHeap) (goal : p.goal ≡ Halting i
       (problem_keeps p).own (problem_keeps p).few
 
 pub program_universal : (p : Problem) → are_universal_commands p.program ≡ true
-program_universal p = commands_universal p.program (problem_keeps p).program.universal
+program_universal p =
+    commands_universal p.version p.defs.most p.program (problem_keeps p).program.universal (problem_keeps p).commands

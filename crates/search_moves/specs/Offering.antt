@@ -6,7 +6,7 @@ use Rattle.heap_formula.specs.declared.judgements.Judgement.{Judgement}
 use Rattle.heap_formula.specs.declared.judgements.Judgement.TheVariants.{Entail, Term as Runs}
 use Rattle.heap_formula.specs.declared.proof_rules.Link.{Link}
 use Rattle.heap_formula.specs.declared.proof_rules.Rule.{Rule}
-use Rattle.rule_table.specs.RuleBook.{variables_of}
+use Rattle.rule_table.specs.RuleBook.{variables_of, leaves_nothing}
 use Rattle.back_links.specs.Listing.{links}
 use Rattle.proof_graph.specs.declared.nodes.GraphNode.{GraphNode}
 use Rattle.search_moves.specs.Places.{each_place}
@@ -26,10 +26,14 @@ abbrev pub is_companion : Judgement → GraphNode → Bool
 is_companion (Entail a bs) node = is_entailment node.judgement && has_rule is_unfold node.reason
 is_companion (Runs i a) node = works_on i node
 
+-- the first links to node k, a companion with this judgement; in a program with an end none if an atom would be over
+abbrev pub whole_links : ℕ → List Command → Judgement → ℕ → Judgement → List Link
+whole_links most lines j k companion =
+    if leaves_nothing lines j companion then take most (links j companion k (variables_of lines j)) else []
+
 -- the first links to the node
 abbrev pub links_to : ℕ → List Command → Judgement → ℕ → GraphNode → List Link
-links_to most lines j k node = if is_companion j node then take most (links j node.judgement k (variables_of lines j))
-    else []
+links_to most lines j k node = if is_companion j node then whole_links most lines j k node.judgement else []
 
 -- by companion, in order; of each the first ones, up to a limit
 abbrev pub candidates : List Command → List GraphNode → ℕ → Judgement → List Link

@@ -13,6 +13,7 @@ use cyc_basics::memory::OutOfMemory;
 use goto_lang::Program;
 use heap_formula::{Judgement, Link};
 use proof_graph::{Graph, JudgementView};
+use rule_book::reasons::leaves_nothing;
 use rule_book::variables_of;
 use std::alloc::Global;
 
@@ -60,6 +61,9 @@ fn links_to(
         return Ok(Vec::new(alloc));
     }
     let companion = graph.judgement(v)?;
+    if !leaves_nothing(program, judgement, &companion) {
+        return Ok(Vec::new(alloc));
+    }
     let p = variables_of(program, judgement);
     all_links(alloc, judgement, &companion, v, p, MOST_LINKS)
 }

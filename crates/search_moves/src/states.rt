@@ -1,6 +1,7 @@
 // The rules at a symbolic state of a program, line by line.
 ghost use Rattle.std.specs.Prelude.{◌≡◌, ◌<◌, [], ◌∷◌, ◌++◌, IfOk, OnOk, length};
 ghost use Rattle.std.specs.List.{list_any};
+ghost use Rattle.std.specs.Option.{option_copied};
 ghost use Rattle.heap_formula.specs.Programs.{counted_from_one, program_variables};
 ghost use Rattle.rule_table.specs.Tests.{equated as are_equated};
 ghost use Rattle.search_moves.specs.Settings.{theory_of};
@@ -25,21 +26,21 @@ use rule_table::equated;
 use std::alloc::Global;
 
 /// The command of a line, if there is such a line.
-pub fn command_at(program: &Program, line: u32) -> Option<Command>
-    ensures { result ≡ counted_from_one program.now line }
+pub fn command_at(program: &Program, line: u32) -> Option<&Command>
+    ensures { option_copied result.entry ≡ counted_from_one program.now line }
 {
     if line == 0 {
         return None;
     }
-    program.lines().get(line as usize - 1).copied()
+    program.lines().get(line as usize - 1)
 }
 
 /// The address at which a command wants a cell.
-fn wanted_cell(command: Option<Command>) -> Option<Term>
-    ensures { result ≡ wanted_by command }
+fn wanted_cell(command: Option<&Command>) -> Option<Term>
+    ensures { result ≡ wanted_by (option_copied command.entry) }
 {
     match command? {
-        Command::Load(_, t, _) | Command::Store(t, _, _) | Command::Free(t) => Some(t),
+        Command::Load(_, t, _) | Command::Store(t, _, _) | Command::Free(t) => Some(*t),
         _ => None,
     }
 }
@@ -106,11 +107,11 @@ fn push_missing_unfolds(
     }
 }
 
-/// Exec at `stop`.
+/// Exec at `stop`, with an end or without.
 fn stops(alloc: Global, at: &GoalSetting<'_>, line: u32) -> Result<Vec<Rule>, OutOfMemory>
     ensures { IfOk result (λ v. v.items ≡ stops_that_go (theory_of at.now) at.now.judgement.now line) }
 {
-    if !matches!(command_at(at.program, line), Some(Command::Stop)) {
+    if !matches!(command_at(at.program, line), Some(Command::Stop | Command::Ends(_))) {
         return Ok(Vec::new(alloc));
     }
     rule_alone(alloc, at, Rule::Exec)

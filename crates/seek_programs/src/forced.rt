@@ -68,7 +68,10 @@ pub fn forced_rule(
     if setting.is_applicable(judgement, &Rule::Absurd)? {
         return Ok(Some(Rule::Absurd));
     }
-    if command_of(setting.program, line) == Some(Command::Stop) {
+    if matches!(
+        command_of(setting.program, line),
+        Some(Command::Stop | Command::Ends(_))
+    ) {
         return Ok(Some(Rule::Exec));
     }
     Ok(rewrite_of(state, setting.variables(judgement)))

@@ -34,7 +34,7 @@ file_of-requires-clause-closed c =
     ∙ same_about c.args.problem.now c.in_ok-moves.moves c.in_ok-moves.ensures.defs c.in_ok-moves.ensures.program
     c.in_ok-moves.ensures.root)
     (within c.args.problem.now c.problem_is_within.ensures.definitions c.problem_is_within.ensures.program
-    c.problem_is_within.ensures.goal)
+    c.problem_is_within.ensures.ends c.problem_is_within.ensures.goal)
     (answers_at (search_for c.args.problem.now) c.args.most c.loop-bound.bound _ (c.args.depth - c.loop-bound.bound)
     stop.Found (reasons_in c.search_depth.new.moves) _ (omega arith)
     (c.in_ok-search_depth.ensures.searched (search_for c.args.problem.now)
@@ -50,7 +50,7 @@ file_of-requires-clause-proof c =
     ∙ same_about c.args.problem.now c.in_ok-moves.moves c.in_ok-moves.ensures.defs c.in_ok-moves.ensures.program
     c.in_ok-moves.ensures.root)
     (within c.args.problem.now c.problem_is_within.ensures.definitions c.problem_is_within.ensures.program
-    c.problem_is_within.ensures.goal)
+    c.problem_is_within.ensures.ends c.problem_is_within.ensures.goal)
     (answers_at (search_for c.args.problem.now) c.args.most c.loop-bound.bound _ (c.args.depth - c.loop-bound.bound)
     stop.Found (reasons_in c.search_depth.new.moves) _ (omega arith)
     (c.in_ok-search_depth.ensures.searched (search_for c.args.problem.now)
@@ -82,7 +82,7 @@ returns-in-Some-Found-clause-proved c =
     ∙ same_about c.args.problem.now c.in_ok-moves.moves c.in_ok-moves.ensures.defs c.in_ok-moves.ensures.program
     c.in_ok-moves.ensures.root)
     (within c.args.problem.now c.problem_is_within.ensures.definitions c.problem_is_within.ensures.program
-    c.problem_is_within.ensures.goal)
+    c.problem_is_within.ensures.ends c.problem_is_within.ensures.goal)
     (answers_at (search_for c.args.problem.now) c.args.most c.loop-bound.bound _ (c.args.depth - c.loop-bound.bound)
     stop.Found (reasons_in c.search_depth.new.moves) _ (omega arith)
     (c.in_ok-search_depth.ensures.searched (search_for c.args.problem.now)
