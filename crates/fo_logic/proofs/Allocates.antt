@@ -1,13 +1,14 @@
--- Endless allocation does not halt.
-use Rattle.std.proofs.Common.{◌≡◌, ℕ, zero, suc, ◌<◌, List, Some, refl, ap, subst, inl, inr}
+-- Endless allocation does not halt; `stop` does; and at an end the end holds.
+use Rattle.std.proofs.Common.{◌≡◌, ℕ, zero, suc, ◌<◌, List, [], ◌∷◌, Some, refl, sym, ap, ◌∙◌, subst, inl, inr}
 use Rattle.std.proofs.Math.ListN.{replicate}
 use Rattle.std.specs.Prelude.{slice_set}
 use Rattle.std.specs.FinMap.{insert}
 use Rattle.heap_formula.specs.declared.commands.Command.{Command}
-use Rattle.heap_formula.specs.declared.commands.Command.TheVariants.{New, Goto, Stop}
-use Rattle.heap_formula.specs.Programs.{Config, IsStop, EndMeaning, Stops, EndHolds, Halts, Goes, counted_from_one}
+use Rattle.heap_formula.specs.declared.commands.Command.TheVariants.{New, Goto, Stop, Ends}
+use Rattle.heap_formula.specs.Programs.{Config, IsStop, EndMeaning, StopsWith, Stops, EndHolds, Halts, Goes, counted_from_one}
 use Rattle.heap_formula.specs.Programs.{next_line, jump, greatest}
 use Rattle.heap_formula.specs.Definitions.{Definition}
+use Rattle.heap_formula.specs.Symbolic.{SymbolicHeap}
 use Rattle.heap_formula.specs.Cells.{Cells}
 use Rattle.heap_formula.proofs.EndLaws.{stops_is_stop}
 use Rattle.heap_formula.proofs.StepLaws.{may_pick}
@@ -52,3 +53,23 @@ pub halts : (ds : List Definition) (rest : Cells) (w n : ℕ) (c : Config) → c
     → Halts (EndHolds ds rest) stopping w n c
 halts ds rest w zero c l = (Stop, ap (counted_from_one stopping) l, tt)
 halts ds rest w (suc n) c l = inl (Stop, ap (counted_from_one stopping) l, tt)
+
+-- ---- an end
+
+the_end : (bs : List SymbolicHeap) (c : Config) (x : Command) → c.line ≡ 1
+    → counted_from_one (Ends bs ∷ []) c.line ≡ Some x → Ends bs ≡ x
+the_end bs c x l at =
+    let there : Some (Ends bs) ≡ Some x = sym (ap (counted_from_one (Ends bs ∷ [])) l) ∙ at in cc
+
+at_the_end : (End : EndMeaning) (bs : List SymbolicHeap) (c : Config) → c.line ≡ 1 → Stops End (Ends bs ∷ []) c → End bs c
+at_the_end End bs c l h = subst (λ x. StopsWith End x c) (sym (the_end bs c h.0 l h.1)) h.2
+
+holds_there : (End : EndMeaning) (bs : List SymbolicHeap) (w n : ℕ) (c : Config) → c.line ≡ 1
+    → Halts End (Ends bs ∷ []) w n c → End bs c
+holds_there End bs w zero c l h = at_the_end End bs c l h
+holds_there End bs w (suc n) c l (inl h) = at_the_end End bs c l h
+holds_there End bs w (suc n) c l (inr r) = absurd (r.2.0 (subst IsStop (the_end bs c r.0 l r.1) tt))
+
+pub end_holds : (ds : List Definition) (rest : Cells) (bs : List SymbolicHeap) (w n : ℕ) (c : Config) → c.line ≡ 1
+    → Halts (EndHolds ds rest) (Ends bs ∷ []) w n c → EndHolds ds rest bs c
+end_holds ds rest = holds_there (EndHolds ds rest)

@@ -19,7 +19,7 @@ use Rattle.heap_formula.specs.Words.{Each}
 use Rattle.rule_table.specs.Answer.{Answer}
 use Rattle.rule_table.specs.Fits.{IsPredAt, PairsFit, PremiseFits, OnPremises}
 use Rattle.rule_table.specs.LinkTable.{link_premise}
-use Rattle.rule_book.proofs.ProgramLinks.{program_link_parts}
+use Rattle.rule_book.specs.ProgramLinks.{program_link_parts}
 use Rattle.rule_table.specs.RuleBook.{variables_of, rule_answer, program_link_fault}
 use Rattle.rule_table.proofs.AllFit.{rule_fits, link_fits}
 use Rattle.heap_formula.proofs.AllMembers.{each_at}

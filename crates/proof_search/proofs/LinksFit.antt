@@ -16,7 +16,7 @@ use Rattle.proof_search.proofs.Members.{each_passes}
 use Rattle.proof_search.proofs.LinksWithin.{all_offered, links_target}
 use Rattle.heap_formula.proofs.AllMembers.{each_imply, each_both}
 use Rattle.cyc_basics.proofs.Options.{none_is}
-use Rattle.rule_book.proofs.ProgramLinks.{program_link_none}
+use Rattle.rule_book.specs.ProgramLinks.{program_link_none}
 
 pub links_fit : (t : Theory) (nodes : List GraphNode) (goal : ℕ) (j : Judgement)
     → Each (IsLinked t nodes j) (links_offered t nodes goal j)

@@ -1,6 +1,6 @@
 -- The premises of a rule have no more spatial atoms on the left than the version allows, as its judgement has.
 use Rattle.std.proofs.Common.{◌≡◌, ℕ, ◌+◌, ◌≤◌, max, Bool, true, false, cond, List, [], ◌∷◌, ◌++◌, map, length}
-use Rattle.std.proofs.Common.{slice_get, nat_eq, arith}
+use Rattle.std.proofs.Common.{slice_get, nat_eq, not, arith}
 use Rattle.std.proofs.lemmas.List.{length-map}
 use Rattle.std.specs.Prelude.{Ok, if◌then◌else◌}
 use Rattle.cyc_basics.specs.declared.limits.Limits.{Limits}
@@ -12,7 +12,7 @@ use Rattle.heap_formula.specs.declared.atoms.Spatial.{Spatial}
 use Rattle.heap_formula.specs.declared.atoms.Spatial.TheVariants.{Cell, Pred}
 use Rattle.heap_formula.specs.declared.commands.Command.{Command}
 use Rattle.heap_formula.specs.declared.commands.Command.TheVariants.{Assign, Load, Store, New, Free, IfEq, IfNeq, IfAny}
-use Rattle.heap_formula.specs.declared.commands.Command.TheVariants.{Goto, Stop}
+use Rattle.heap_formula.specs.declared.commands.Command.TheVariants.{Goto, Stop, Ends}
 use Rattle.heap_formula.specs.declared.judgements.Judgement.{Judgement}
 use Rattle.heap_formula.specs.declared.judgements.Judgement.TheVariants.{Entail, Term as Runs}
 use Rattle.heap_formula.specs.declared.judgements.Premise.{Premise}
@@ -29,7 +29,7 @@ use Rattle.heap_formula.specs.Fresh.{fresh_number, heap_bound, heap_exists, vari
 use Rattle.heap_formula.specs.Judgements.{antecedent}
 use Rattle.heap_formula.specs.Meaning.{cases_of}
 use Rattle.heap_formula.specs.Positions.{without, kept_pairs}
-use Rattle.heap_formula.specs.Programs.{counted_from_one, program_variables}
+use Rattle.heap_formula.specs.Programs.{counted_from_one, program_variables, has_ends}
 use Rattle.heap_formula.specs.Substitution.{in_heap, apply_spatial}
 use Rattle.heap_formula.specs.Symbolic.{SymbolicHeap}
 use Rattle.heap_formula.specs.Words.{Each}
@@ -128,6 +128,7 @@ right_short most ds a b k c (Pred q ts) =
 command_short : (most : Limits) → (i : ℕ) (a : SymbolicHeap) (n : ℕ) (c : Command)
     → OnPremises (StaysShort most (Runs i a)) (command_answer most i a n c)
 command_short most i a n Stop = tt
+command_short most i a n (Ends bs) = limited_short most (Runs i a) (one (with_right a bs))
 command_short most i a n (Goto j) = limited_short most (Runs i a) (one (at_line j a a))
 command_short most i a n (IfEq t u j) =
     limited_short most (Runs i a) (two (at_line j a (with_atom a (Eq t u))) (at_line (i + 1) a (with_atom a (Neq t u))))
@@ -210,5 +211,6 @@ rule_stays_short most ds lines j Exec =
     runs_on (StaysShort most) j _ (λ i a. finds_on (StaysShort most (Runs i a)) (counted_from_one lines i)
     WrongJudgement _ (λ c at. command_short most i a (fresh_number (program_variables lines) j) c))
 rule_stays_short most ds lines j (Drop k) =
+    needs_on (StaysShort most j) (not (has_ends lines)) WrongJudgement _ (λ _.
     runs_on (StaysShort most) j _ (λ i a. finds_on (StaysShort most (Runs i a)) (slice_get a.spatial k) NoSuchAtom _
-    (λ x at. (dropped_short most k a.spatial, tt)))
+    (λ x at. (dropped_short most k a.spatial, tt))))

@@ -27,7 +27,7 @@ use Rattle.derivations.specs.LogicNodes.{numbers_by, proof_nodes}
 use Rattle.derivations.proofs.LogicMade.{IsBy, AreNodes}
 use Rattle.derivations.proofs.LogicRows.{row_of}
 use Rattle.proof_search.specs.Calculus.{MadeNode, judgement_of}
-use Rattle.rule_book.proofs.ProgramLinks.{program_link_parts}
+use Rattle.rule_book.specs.ProgramLinks.{program_link_parts}
 use Rattle.proof_search.specs.Found.{IsWithinLimits}
 use Rattle.proof_search.proofs.Fair.{Occurs, Allows}
 use Rattle.proof_search.proofs.SearchLogic.{logic}

@@ -11,4 +11,3 @@ mod SmallEntries
 pub mod FewPremises
 mod ExampleFaults
 mod ExampleFiles
-pub mod ProgramLinks

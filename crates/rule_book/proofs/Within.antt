@@ -320,7 +320,7 @@ module _ (most : Limits) (ds : List Definition) (n : ℕ) where
 
     command_nearly : (c : Command) → MayStandAt n i c → IsCommandWithin most ds c → OnPremises P (command_answer most i a m c)
     command_nearly Stop l w = tt
-    command_nearly (Ends bs) l w = limited_on P most (one (with_right a bs)) (((h, w.0), w.1), tt)
+    command_nearly (Ends bs) l w = limited_on P most (one (with_right a bs)) (((h, w.0), (w.1, w.2)), tt)
     command_nearly (Goto j) l w = limited_nearly most ds n (one (at_line j a a)) (state_ready j a l shaped, tt)
     command_nearly (IfEq t u j) l w =
         limited_nearly most ds n (two (at_line j a (with_atom a (Eq t u)))

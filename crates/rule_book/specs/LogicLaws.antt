@@ -38,7 +38,7 @@ use Rattle.proof_graph.proofs.Places.{place_of}
 use Rattle.cyc_basics.proofs.Places.{get_map}
 use Rattle.logics.specs.declared.premises.Subgoal.{Subgoal}
 use Rattle.logics.specs.Laws.{ArePremises, IsInOrder, IsLocallySound}
-use Rattle.rule_book.proofs.ProgramLinks.{program_link_parts}
+use Rattle.rule_book.specs.ProgramLinks.{program_link_parts}
 use Rattle.rule_book.specs.SeparationLogic.{traced, traced_answer, pairs_unless, rule_premises, companion_pairs}
 use Rattle.rule_book.specs.SeparationLogic.{separation_logic, MayOccur, Holds}
 

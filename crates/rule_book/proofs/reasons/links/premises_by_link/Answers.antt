@@ -5,7 +5,7 @@ use Rattle.rule_table.specs.Answer.{one}
 use Rattle.rule_table.specs.RuleBook.{variables_of}
 use Rattle.rule_table.proofs.AllRules.{has_variables}
 use Rattle.rule_table.proofs.LinkRule.{link_is_sound}
-use Rattle.rule_book.proofs.ProgramLinks.{program_link_parts}
+use Rattle.rule_book.specs.ProgramLinks.{program_link_parts}
 use Rattle.rule_book.proofs.SmallEntries.{link_pairs_small}
 use Rattle.rule_book.proofs.reasons.links.premises_by_link.Goals as goal
 
