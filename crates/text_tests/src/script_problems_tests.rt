@@ -118,36 +118,6 @@ fn many_cases_stay_in_one_definition(rt: HostRuntime) -> Result<(), Fail> {
 }
 
 #[test]
-fn a_65th_case_has_no_room(rt: HostRuntime) -> Result<(), Fail> {
-    let alloc = rt.alloc();
-    let asserted = list(alloc, alternatives(alloc, 64)?)?;
-    let script = segments(alloc, asserted, Vec::new(alloc))?;
-    assert_eq!(rt;
-        refusal(alloc, &script),
-        Some((Place::Whole, Unsupported::Cases))
-    );
-    Ok(())
-}
-
-#[test]
-fn terms_of_another_sort_are_refused(rt: HostRuntime) -> Result<(), Fail> {
-    let alloc = rt.alloc();
-    let asserted = list(alloc, cell(X, &[Y]))?;
-    let mut script = segments(alloc, asserted, list(alloc, equal(X, Y))?)?;
-    script.constants[1].sort = 1;
-    assert_eq!(rt;
-        refusal(alloc, &script),
-        Some((Place::Asserted(0), Unsupported::Sorts))
-    );
-    script.asserted = list(alloc, cell(X, &[X]))?;
-    assert_eq!(rt;
-        refusal(alloc, &script),
-        Some((Place::Denied(0), Unsupported::Sorts))
-    );
-    Ok(())
-}
-
-#[test]
 fn what_cannot_be_said(rt: HostRuntime) -> Result<(), Fail> {
     let alloc = rt.alloc();
     let Ok(both) = ScriptFormula::and(alloc, cell(X, &[Y]), call(0, &[X, Y])) else {
