@@ -62,7 +62,7 @@ while IFS='|' read -r file wanted; do
   word_of "$here/$file"
   [ "$word" = "$wanted" ] || fail "examples/$file: solve answers '$word', and not '$wanted'"
 done < "$here/solved.txt"
-for problem in "$here"/*.problem "$here"/solve/*.problem "$here"/refuted/*.problem; do
+for problem in "$here"/*.problem "$here"/solve/*.problem "$here"/refuted/*.problem "$here"/ends/*.problem; do
   grep -q "^${problem#"$here"/}|" "$here/solved.txt" || fail "examples/solved.txt does not tell of ${problem#"$here"/}"
 done
 

@@ -1,10 +1,11 @@
 // The first fault of a link.
-ghost use Rattle.std.specs.Prelude.{◌≡◌, ◌≤◌, [], ◌∷◌, List, None, length, map};
+ghost use Rattle.std.specs.Prelude.{◌≡◌, ◌≤◌, [], ◌∷◌, List, None, length, map, true};
 ghost use Rattle.heap_formula.specs.Definitions.{Definition};
 ghost use Rattle.heap_formula.specs.Judgements.{IsLocallySound};
 ghost use Rattle.heap_formula.specs.declared.commands.Command.{Command};
 ghost use Rattle.rule_table.specs.LinkTable.{keeps_below as bindings_keep, parts_fault as first_parts_fault};
 ghost use Rattle.rule_table.specs.LinkTable.{link_fault as first_link_fault, link_premise};
+ghost use Rattle.rule_table.specs.RuleBook.{leaves_nothing};
 ghost use Rattle.rule_table.specs.Soundness.{AreUniversal, HasVariables};
 
 use crate::covering::disjunct_fault;
@@ -76,11 +77,13 @@ fn first_fault(bud: &Judgement, companion: &Judgement, link: &Link, p: u16) -> O
 }
 
 /// The first fault of a link from a bud to its companion; `p` is the number of program variables for `from` judgements
-/// and 0 for entailments. That the link's target is a node is the caller's to see.
+/// and 0 for entailments. That the link's target is a node is the caller's to see, and in a program with an end that no
+/// atom of the bud's is over.
 pub fn link_fault(bud: &Judgement, companion: &Judgement, link: &Link, p: u16) -> Option<RuleFault>
     ensures fault { result ≡ first_link_fault bud.now companion.now link.now p }
     ensures sound { result ≡ None → AreUniversal link.now.subst → (ds : List Definition) (lines : List Command)
-        → HasVariables lines p bud.now → IsLocallySound ds lines bud.now (link_premise companion.now link.now ∷ []) }
+        → HasVariables lines p bud.now → leaves_nothing lines bud.now companion.now ≡ true
+        → IsLocallySound ds lines bud.now (link_premise companion.now link.now ∷ []) }
 {
     first_fault(bud, companion, link, p)
 }

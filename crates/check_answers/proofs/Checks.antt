@@ -1,5 +1,5 @@
 -- What a check's answer says, and that an input has one, but for the lasso that is named.
-use Rattle.std.proofs.Common.{◌≡◌, ◌≤◌, ℕ, List, ap, sym, ◌∙◌, arith, inl, inr, length}
+use Rattle.std.proofs.Common.{◌≡◌, ◌≤◌, ℕ, List, ap, sym, ◌∙◌, arith, inl, inr, length, refl}
 use Rattle.std.specs.Prelude.{Result, Ok, Err}
 use Rattle.buchi_inclusion.specs.Answers.{HasAtMost}
 use Rattle.cyc_lex.specs.declared.fault.ReadFault.{ReadFault}
@@ -18,7 +18,7 @@ use Rattle.check_answers.proofs.Files.{one_file_reading}
 use Rattle.check_answers.proofs.OneAnswer.{one_of}
 use Rattle.check_answers.proofs.OneCheck.{said_one}
 use Rattle.check_answers.proofs.OneFault.{one_fault_answer}
-use Rattle.check_answers.specs.Answers.{IsChecked, IsReadAnswer, verdict_status, verdict_text}
+use Rattle.check_answers.specs.Answers.{IsChecked, IsReadAnswer, nodes_text, verdict_status, verdict_text}
 use Rattle.check_answers.proofs.OneVerdict.{one_verdict, right_faulty, same_verdict}
 
 -- ---- success
@@ -86,14 +86,20 @@ check_accepts input g s text short is correct few (inr checked) =
 
 -- ---- one answer
 
+-- like files are told of alike
+same_said : (f g : ProofFile) (v : Verdict) → AreSame f g → verdict_text f v ≡ verdict_text g v
+same_said f g Accepted same = λ i. nodes_text (same.program i) (same.nodes i)
+same_said f g (RuleRefused node fault) same = refl
+same_said f g (PathRefused lasso) same = refl
+same_said f g TooManyStates same = refl
+
 one_read_check : (r q : Result ProofFile ReadFault) (s t : Status) (xs ys : List ℕ) → AreAlike AreSame r q
     → IsReadAnswer r s xs → IsReadAnswer q t ys → (s ≡ t) × AreOneCheck xs ys
 one_read_check (Ok f) (Ok g) s t xs ys same first second =
-    let one = one_verdict g first.0 second.0 (same_verdict f g same first.0 first.1) second.1 in
-    let said = first.3 ∙ ap (λ nodes. verdict_text nodes first.0) same.nodes in (
+    let one = one_verdict g first.0 second.0 (same_verdict f g same first.0 first.1) second.1 in (
       first.2 ∙ one.0 ∙ sym second.2,
-      said_one xs ys (verdict_text g.nodes first.0) (verdict_text g.nodes second.0)
-          said second.3 one.1,
+      said_one xs ys (verdict_text g first.0) (verdict_text g second.0)
+          (first.3 ∙ same_said f g first.0 same) second.3 one.1,
     )
 one_read_check (Err a) (Err b) s t xs ys same first second =
     let one = one_fault_answer a b s t xs ys same first second in (one.0, inl one.1)

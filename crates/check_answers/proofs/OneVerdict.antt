@@ -98,7 +98,7 @@ one_refusal f v w x y a b =
 
 -- the verdicts on a file end a check in one way, and say the same but for the lasso
 pub one_verdict : (f : ProofFile) (v w : Verdict) → IsVerdict f v → IsVerdict f w
-    → (verdict_status v ≡ verdict_status w) × AreOneCheck (verdict_text f.nodes v) (verdict_text f.nodes w)
+    → (verdict_status v ≡ verdict_status w) × AreOneCheck (verdict_text f v) (verdict_text f w)
 one_verdict f Accepted Accepted a b = (refl, inl refl)
 one_verdict f Accepted (RuleRefused n fault) a b = absurd (right_faulty f n fault a.0.nodes b)
 one_verdict f Accepted (PathRefused l) a b = absurd (b.2 (a.0.paths l b.1))

@@ -3,6 +3,7 @@ use Rattle.std.specs.Prelude.{◌≡◌, ◌+◌, ◌≤◌, ℕ, zero, suc, Lis
 use Rattle.std.specs.Prelude.{Err, Bool}
 use Rattle.cyc_runs.specs.Texts.{accepted_text, node_refused_text, path_refused_text, states_limit_text}
 use Rattle.cyc_lex.specs.declared.fault.ReadFault.{ReadFault}
+use Rattle.heap_formula.specs.declared.commands.Command.{Command}
 use Rattle.proof_file.specs.FileNodes.{FileNode}
 use Rattle.proof_file.specs.declared.file.ProofFile.{ProofFile}
 use Rattle.proof_file.specs.Links.{is_link}
@@ -25,10 +26,11 @@ is_link_node node = is_link node.reason
 abbrev pub link_count : List FileNode → ℕ
 link_count nodes = count_by is_link_node nodes
 
--- the line for a proof of these nodes that is right
-abbrev pub nodes_text : List FileNode → List ℕ
-nodes_text [] = []
-nodes_text (root ∷ nodes) = accepted_text root.judgement (length (root ∷ nodes)) (link_count (root ∷ nodes))
+-- the line for a proof of these nodes on the program that is right
+abbrev pub nodes_text : List Command → List FileNode → List ℕ
+nodes_text lines [] = []
+nodes_text lines (root ∷ nodes) =
+    accepted_text lines root.judgement (length (root ∷ nodes)) (link_count (root ∷ nodes))
 
 -- how a check with this verdict ends
 abbrev pub verdict_status : Verdict → Status
@@ -37,18 +39,18 @@ verdict_status (RuleRefused node fault) = status.Refused
 verdict_status (PathRefused lasso) = status.Refused
 verdict_status TooManyStates = status.Limit
 
--- the line for a verdict on these nodes
-abbrev pub verdict_text : List FileNode → Verdict → List ℕ
-verdict_text nodes Accepted = nodes_text nodes
-verdict_text nodes (RuleRefused node fault) = node_refused_text node fault
-verdict_text nodes (PathRefused lasso) = path_refused_text lasso
-verdict_text nodes TooManyStates = states_limit_text
+-- the line for a verdict on the file
+abbrev pub verdict_text : ProofFile → Verdict → List ℕ
+verdict_text file Accepted = nodes_text file.program file.nodes
+verdict_text file (RuleRefused node fault) = node_refused_text node fault
+verdict_text file (PathRefused lasso) = path_refused_text lasso
+verdict_text file TooManyStates = states_limit_text
 
 -- a check that read its input so is answered so; out of memory is no fault of the input
 abbrev pub IsReadAnswer : Result ProofFile ReadFault → Status → List ℕ → Type 0
 IsReadAnswer (Ok file) ending text =
     (verdict : Verdict) × IsVerdict file verdict × (ending ≡ verdict_status verdict)
-    × (text ≡ verdict_text file.nodes verdict)
+    × (text ≡ verdict_text file verdict)
 IsReadAnswer (Err fault) ending text = IsFaultAnswer fault ending text
 
 -- the input is read, and answered so

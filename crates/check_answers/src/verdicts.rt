@@ -37,13 +37,23 @@ pub fn links_of(nodes: &[FileNode]) -> usize
 }
 
 // The line for a proof that is right.
-fn nodes_line(alloc: Global, nodes: &[FileNode]) -> Result<Vec<u8>, OutOfMemory>
-    requires { 0 < length nodes.now }
-    ensures { IfOk result (λ line. line.items ≡ nodes_text nodes.now) }
+fn file_line(alloc: Global, file: &ProofFile) -> Result<Vec<u8>, OutOfMemory>
+    requires { 0 < length file.now.nodes }
+    ensures { IfOk result (λ line. line.items ≡ nodes_text file.now.program file.now.nodes) }
 {
+    let nodes = file.nodes.as_slice();
     let links = links_of(nodes);
     match nodes {
-        [root, ..] => accepted_line(alloc, &root.judgement, nodes.len() as u64, links as u64),
+        [root, ..] => {
+            let program = &file.program;
+            accepted_line(
+                alloc,
+                program,
+                &root.judgement,
+                nodes.len() as u64,
+                links as u64,
+            )
+        }
         [] => unreachable!(),
     }
 }
@@ -56,10 +66,10 @@ fn answer_to_verdict(
     requires { 0 < length file.now.nodes }
     ensures status { IfOk result (λ a. a.status ≡ verdict_status verdict) }
     ensures ending { IfOk result (λ a. is_answer a.status ≡ true) }
-    ensures text { IfOk result (λ a. a.text.items ≡ verdict_text file.now.nodes verdict) }
+    ensures text { IfOk result (λ a. a.text.items ≡ verdict_text file.now verdict) }
 {
     let (status, text) = match verdict {
-        Verdict::Accepted => (Status::Success, nodes_line(alloc, file.nodes.as_slice())?),
+        Verdict::Accepted => (Status::Success, file_line(alloc, file)?),
         Verdict::RuleRefused { node, fault } => {
             (Status::Refused, node_refused_line(alloc, node, fault)?)
         }

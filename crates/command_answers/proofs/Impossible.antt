@@ -10,4 +10,4 @@ use Rattle.pair_family.specs.Statements.{IsSatisfiable}
 pub impossible_holds : (ds : List Definition) (lines : List Command) (judgement : Judgement)
     → ¬ IsSatisfiable ds (antecedent judgement) → JudgementHolds ds lines judgement
 impossible_holds ds lines (Entail a bs) none = λ s h satisfied. absurd (none (s, h, satisfied))
-impossible_holds ds lines (Term i a) none = λ w some s h part is_part satisfied. absurd (none (s, part, satisfied))
+impossible_holds ds lines (Term i a) none = λ w some s part rest h union satisfied. absurd (none (s, part, satisfied))

@@ -13,7 +13,7 @@ use Rattle.heap_formula.specs.Symbolic.{SymbolicHeap}
 use Rattle.heap_formula.specs.Words.{Each}
 use Rattle.rule_table.proofs.Agreement.{IsBelow, heap_below}
 use Rattle.rule_book.specs.Limits.{HasFields as HasFewFields, IsCaseWithin, IsDefinitionWithin, IsJudgementWithin}
-use Rattle.formula_reader.proofs.HeapsWithin.{in_heap_each}
+use Rattle.heap_reader.proofs.HeapTerms.{in_heap_each}
 use Rattle.pair_family.specs.Closedness.{AreCases, HasFields, IsCase, IsParameterBelow}
 use Rattle.heap_formula.proofs.AllMembers.{each_imply}
 

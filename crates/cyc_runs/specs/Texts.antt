@@ -1,5 +1,8 @@
 -- The text of each printed line.
 use Rattle.std.specs.Prelude.{ℕ, List, [], ◌∷◌, ◌++◌, codes, decimal, Option, Some, None}
+use Rattle.std.specs.Prelude.{if◌then◌else◌}
+use Rattle.heap_formula.specs.declared.commands.Command.{Command}
+use Rattle.heap_formula.specs.Programs.{has_ends}
 use Rattle.heap_formula.specs.declared.judgements.Judgement.{Judgement}
 use Rattle.heap_formula.specs.declared.judgements.Judgement.TheVariants.{Entail, Term}
 use Rattle.heap_formula.specs.declared.proof_rules.RuleFault.{RuleFault}
@@ -11,16 +14,16 @@ use Rattle.cyc_lex.specs.declared.fault.LexFault.TheVariants.{BadByte, BadUtf8, 
 use Rattle.trace_pairs.specs.Walk.{Walk}
 use Rattle.cyc_runs.specs.Names.{fault_name_of, fault_number_of, ill_name_of, limit_name_of}
 
--- what a judgement claims, in one word
-abbrev pub claim_text : Judgement → List ℕ
-claim_text (Entail a bs) = codes "entailment"
-claim_text (Term i a) = codes "termination"
+-- what a judgement on the program claims, in one word: a run from a line that stops at an end leaves what it says
+abbrev pub claim_text : List Command → Judgement → List ℕ
+claim_text lines (Entail a bs) = codes "entailment"
+claim_text lines (Term i a) = if has_ends lines then codes "correctness" else codes "termination"
 
 -- a proof of this judgement is right, and has so many nodes, of which so many are links
-abbrev pub accepted_text : Judgement → ℕ → ℕ → List ℕ
-accepted_text judgement nodes links =
-    codes "accepted " ++ claim_text judgement ++ codes " nodes " ++ decimal nodes ++ codes " links " ++ decimal links
-    ++ codes "\n"
+abbrev pub accepted_text : List Command → Judgement → ℕ → ℕ → List ℕ
+accepted_text lines judgement nodes links =
+    codes "accepted " ++ claim_text lines judgement ++ codes " nodes " ++ decimal nodes ++ codes " links "
+    ++ decimal links ++ codes "\n"
 
 -- the number that a fault carries, after a space
 abbrev pub number_text : Option ℕ → List ℕ

@@ -139,7 +139,7 @@ goal_holds p f h =
 pub proof_accepted : (p : Problem) (f : ProofFile) (text : List ℕ) → IsProofFor p f → text ≡ file_text f
     → length text ≤ input_limit → (line : List ℕ) × IsAnswer (Some Check) text status.Success line
 proof_accepted p f text h e short = (
-  nodes_text f.nodes,
+  nodes_text f.program f.nodes,
   inr (
     short,
     Ok f,

@@ -54,7 +54,7 @@ accepted f TooManyStates is e = absurd cc
 text_accepted : (g : ProofFile) (text : List ℕ) → IsVerdict g Accepted → text ≡ file_text g → length text ≤ input_limit
     → (line : List ℕ) × IsAnswer (Some Check) text status.Success line
 text_accepted g text is e short = (
-  nodes_text g.nodes,
+  nodes_text g.program g.nodes,
   inr (
     short,
     Ok g,

@@ -7,9 +7,9 @@ use Rattle.heap_formula.specs.declared.terms.Term.{Term}
 use Rattle.heap_formula.specs.contracts.terms.TermPartialEq.TheImpl.{eq-value as term_eq}
 use Rattle.heap_formula.specs.declared.commands.Command.{Command}
 use Rattle.heap_formula.specs.declared.commands.Command.TheVariants.{Assign, Load, Store, New, Free, IfEq, IfNeq, IfAny}
-use Rattle.heap_formula.specs.declared.commands.Command.TheVariants.{Goto, Stop}
+use Rattle.heap_formula.specs.declared.commands.Command.TheVariants.{Goto, Stop, Ends}
 use Rattle.heap_formula.specs.contracts.commands.CommandPartialEq.TheImpl.{eq-value as command_eq}
-use Rattle.heap_formula.proofs.Equal.{both_Decides, term_eq-Decides}
+use Rattle.heap_formula.proofs.Equal.{both_Decides, term_eq-Decides, disjuncts_eq-Decides}
 
 three_Decides : {P Q R S : Type 0} (p q r : Bool) → Decides p P → Decides q Q → Decides r R → (P → Q → R → S)
     → (S → P × Q × R) → Decides (p && (q && r)) S
@@ -37,4 +37,5 @@ command_eq-Decides (IfNeq t s k) (IfNeq u r l) = three_Decides (term_eq.it t u) 
 command_eq-Decides (IfAny k) (IfAny l) = let d = Decides-eqb k l in (λ e. ap IfAny (d.0 e), λ e. d.1 (cc))
 command_eq-Decides (Goto k) (Goto l) = let d = Decides-eqb k l in (λ e. ap Goto (d.0 e), λ e. d.1 (cc))
 command_eq-Decides Stop Stop = (λ e. refl, λ e. refl)
+command_eq-Decides (Ends bs) (Ends cs) = let d = disjuncts_eq-Decides bs cs _ refl in (λ e. ap Ends (d.0 e), λ e. d.1 (cc))
 command_eq-Decides a b = (λ e. cc, λ e. cc)

@@ -13,14 +13,14 @@ use Rattle.heap_reader.specs.Trees.{Heading}
 use Rattle.heap_reader.specs.Spans.{total}
 use Rattle.heap_reader.specs.Flaws.{Found, or_later, listed_flaw}
 use Rattle.heap_reader.proofs.WithinSpans.{Before}
-use Rattle.proof_syntax.specs.Trees.{Definition, Line, Node, File}
+use Rattle.proof_syntax.specs.Trees.{Definition, Line, End, Node, File}
 use Rattle.proof_syntax.specs.Grammar.{file}
 use Rattle.proof_syntax.specs.Left.{Part, First, Nodes as Among, At, Left, left_of, Statement, statement_of, next, join}
 use Rattle.proof_syntax.specs.Left.{joined}
 use Rattle.proof_syntax.proofs.LeftLaws.{statement-first, statement-fault}
 use Rattle.proof_syntax.proofs.Listed.{joined-twice}
 use Rattle.proof_file.specs.Flaws.{headings, definition_flaw, program_flaw, node_flaw, first_line, first_node}
-use Rattle.proof_file.specs.Flaws.{nodes_flaw, file_flaw}
+use Rattle.proof_file.specs.Flaws.{file_ends_flaw, nodes_flaw, file_flaw}
 use Rattle.proof_file.specs.Spans.{definition_span, node_span}
 use Rattle.proof_file.specs.Values.{node_value}
 use Rattle.proof_file.proofs.WithinSpans.{node_before, file_before}
@@ -58,10 +58,12 @@ lead-fault p ws vs f left leads e =
 
 -- ---- flaws of lists
 
-later-again : (a b c d : Found) → or_later a (or_later b (or_later c d)) ≡ or_later (or_later a (or_later b c)) d
-later-again (Some x) b c d = refl
-later-again None (Some x) c d = refl
-later-again None None c d = refl
+later-again : (a b c d e : Found) → or_later a (or_later b (or_later c (or_later d e)))
+    ≡ or_later (or_later a (or_later b (or_later c d))) e
+later-again (Some x) b c d e = refl
+later-again None (Some x) c d e = refl
+later-again None None (Some x) d e = refl
+later-again None None None d e = refl
 
 pub one-later : (a b c : Found) → or_later a (or_later b c) ≡ or_later (or_later a b) c
 one-later (Some x) b c = refl
@@ -154,41 +156,42 @@ told-nodes most hs lines all n before rest (x ∷ xs) is =
 -- ---- the first nodes
 
 -- a file's flaws are those of its front, and then those of its other nodes
-pub file-flaws : (v : Version) (ds : List Definition) (ls : List Line) (xs ns : List Node)
-    → file_flaw (tree_of v ds ls (xs ++ ns)) ≡ or_later (file_flaw (tree_of v ds ls xs))
+pub file-flaws : (v : Version) (ds : List Definition) (ls : List Line) (es : List End) (xs ns : List Node)
+    → file_flaw (tree_of v ds ls es (xs ++ ns)) ≡ or_later (file_flaw (tree_of v ds ls es xs))
     (listed_flaw (node_flaw (limits v) (headings ds) (length ls)) node_span (length xs)
-    (first_node (tree_of v ds ls xs) + total node_span xs) ns)
-file-flaws v ds ls xs ns =
+    (first_node (tree_of v ds ls es xs) + total node_span xs) ns)
+file-flaws v ds ls es xs ns =
     let d = listed_flaw (definition_flaw (limits v) (headings ds)) definition_span 0 4 ds in
-    let p = program_flaw (limits v) (first_line (tree_of v ds ls xs)) ls in
+    let p = program_flaw (limits v) (first_line (tree_of v ds ls es xs)) ls in
+    let e = file_ends_flaw (tree_of v ds ls es xs) in
     let other : ℕ → Found = λ n. listed_flaw (node_flaw (limits v) (headings ds) (length ls)) node_span n
-    (first_node (tree_of v ds ls xs) + total node_span xs) ns in
+    (first_node (tree_of v ds ls es xs) + total node_span xs) ns in
     let none : 0 + length xs ≡ length xs = omega arith in
-    ap (λ (o : Found). or_later d (or_later p o)) (listed-append (node_flaw (limits v) (headings ds) (length ls))
-    node_span 0 (first_node (tree_of v ds ls xs)) xs ns)
-    ∙ ap (λ (n : ℕ). or_later d (or_later p (or_later (nodes_flaw (tree_of v ds ls xs)) (other n)))) none
-    ∙ later-again d p (nodes_flaw (tree_of v ds ls xs))
+    ap (λ (o : Found). or_later d (or_later p (or_later e o))) (listed-append (node_flaw (limits v) (headings ds) (length ls))
+    node_span 0 (first_node (tree_of v ds ls es xs)) xs ns)
+    ∙ ap (λ (n : ℕ). or_later d (or_later p (or_later e (or_later (nodes_flaw (tree_of v ds ls es xs)) (other n))))) none
+    ∙ later-again d p e (nodes_flaw (tree_of v ds ls es xs))
     (listed_flaw (node_flaw (limits v) (headings ds) (length ls)) node_span (length xs)
-    (first_node (tree_of v ds ls xs) + total node_span xs) ns)
+    (first_node (tree_of v ds ls es xs) + total node_span xs) ns)
 
-begun-ok : (ts us : List Placed) (v : Version) (ds : List Definition) (ls : List Line) (xs ns : List Node)
-    → Spell ts v ds ls xs → file_outcome (ts ++ us) (Ok (tree_of v ds ls (xs ++ ns)))
-    ≡ nodes_outcome (begun_of ts v ds ls xs) us (Ok ns)
-begun-ok ts us v ds ls xs ns spell = λ i. settled (fault i) (said i)
+begun-ok : (ts us : List Placed) (v : Version) (ds : List Definition) (ls : List Line) (es : List End) (xs ns : List Node)
+    → Spell ts v ds ls es xs → file_outcome (ts ++ us) (Ok (tree_of v ds ls es (xs ++ ns)))
+    ≡ nodes_outcome (begun_of ts v ds ls es xs) us (Ok ns)
+begun-ok ts us v ds ls es xs ns spell = λ i. settled (fault i) (said i)
   where
     front : Found
-    front = file_flaw (tree_of v ds ls xs)
+    front = file_flaw (tree_of v ds ls es xs)
 
     behind : Found
     behind = listed_flaw (node_flaw (limits v) (headings ds) (length ls)) node_span (length xs) (length ts) ns
 
-    flaws : file_flaw (tree_of v ds ls (xs ++ ns)) ≡ or_later front behind
-    flaws = file-flaws v ds ls xs ns ∙ ap (λ (k : ℕ). or_later front
+    flaws : file_flaw (tree_of v ds ls es (xs ++ ns)) ≡ or_later front behind
+    flaws = file-flaws v ds ls es xs ns ∙ ap (λ (k : ℕ). or_later front
         (listed_flaw (node_flaw (limits v) (headings ds) (length ls)) node_span (length xs) k ns))
         (sym spell.size)
 
     within : Before front (length ts)
-    within = subst (λ (k : ℕ). Before front k) (sym spell.size) (file_before (tree_of v ds ls xs))
+    within = subst (λ (k : ℕ). Before front k) (sym spell.size) (file_before (tree_of v ds ls es xs))
 
     later : told_flaw 0 (ts ++ us) behind ≡ nodes_fault (limits v) (headings ds) (length ls) (length xs)
         (length ts) us ns
@@ -200,20 +203,20 @@ begun-ok ts us v ds ls xs ns spell = λ i. settled (fault i) (said i)
         us ns)
     both = told-later 0 (ts ++ us) front behind ∙ (λ i. or_else (told-front ts us front within i) (later i))
 
-    fault : told_flaw 0 (ts ++ us) (file_flaw (tree_of v ds ls (xs ++ ns)))
+    fault : told_flaw 0 (ts ++ us) (file_flaw (tree_of v ds ls es (xs ++ ns)))
         ≡ or_else (told_flaw 0 ts front) (nodes_fault (limits v) (headings ds) (length ls) (length xs) (length ts)
         us ns)
     fault = ap (told_flaw 0 (ts ++ us)) flaws ∙ both
 
-    said : said_of (tree_of v ds ls (xs ++ ns)) ≡ said_with (begun_of ts v ds ls xs) ns
-    said = ap (λ vs. record (said_of (tree_of v ds ls xs)) { nodes = vs }) (map-append (node_value (headings ds)) xs ns)
+    said : said_of (tree_of v ds ls es (xs ++ ns)) ≡ said_with (begun_of ts v ds ls es xs) ns
+    said = ap (λ vs. record (said_of (tree_of v ds ls es xs)) { nodes = vs }) (map-append (node_value (headings ds)) xs ns)
 
-begun-outcome : (ts us : List Placed) (v : Version) (ds : List Definition) (ls : List Line) (xs : List Node)
-    (q : Result (List Node) ℕ) → Spell ts v ds ls xs → ((left : ℕ) → q ≡ Err left → left ≤ length us)
-    → file_outcome (ts ++ us) (q >>= λ ns. Ok (tree_of v ds ls (xs ++ ns)))
-    ≡ nodes_outcome (begun_of ts v ds ls xs) us q
-begun-outcome ts us v ds ls xs (Ok ns) spell within = begun-ok ts us v ds ls xs ns spell
-begun-outcome ts us v ds ls xs (Err left) spell within = ap (λ f. Faulty f)
+begun-outcome : (ts us : List Placed) (v : Version) (ds : List Definition) (ls : List Line) (es : List End) (xs : List Node)
+    (q : Result (List Node) ℕ) → Spell ts v ds ls es xs → ((left : ℕ) → q ≡ Err left → left ≤ length us)
+    → file_outcome (ts ++ us) (q >>= λ ns. Ok (tree_of v ds ls es (xs ++ ns)))
+    ≡ nodes_outcome (begun_of ts v ds ls es xs) us q
+begun-outcome ts us v ds ls es xs (Ok ns) spell within = begun-ok ts us v ds ls es xs ns spell
+begun-outcome ts us v ds ls es xs (Err left) spell within = ap (λ f. Faulty f)
     (syntax-later 0 left ts us (within left refl)) ∙ ap (λ n. Faulty (syntax_fault n us left)) (omega arith)
 
 whole-joined : {A B : Type 0} (f : A → B) (q : Reading A)
@@ -226,14 +229,14 @@ whole-joined {A = A} {B = B} f (Ok y) = by y.0 y.1
     by x (d ∷ r) = refl
 
 -- what is kept of the tokens that spell a version, definitions, lines and nodes says the same as they do
-pub begun-step : (ts : List Placed) (v : Version) (ds : List Definition) (ls : List Line) (xs : List Node)
-    → Spell ts v ds ls xs → Takes (Head ts) [] (Nodes (begun_of ts v ds ls xs))
-begun-step ts v ds ls xs spell us =
+pub begun-step : (ts : List Placed) (v : Version) (ds : List Definition) (ls : List Line) (es : List End) (xs : List Node)
+    → Spell ts v ds ls es xs → Takes (Head ts) [] (Nodes (begun_of ts v ds ls es xs))
+begun-step ts v ds ls es xs spell us =
     ap (λ (ws : List Word). file_outcome (ts ++ us) (read_whole file ws)) (map-append word_of ts us)
     ∙ ap (λ (q : Reading File). file_outcome (ts ++ us) (q >>= λ y. all_taken y.0 y.1)) (spell.leads (map word_of us))
-    ∙ ap (file_outcome (ts ++ us)) (whole-joined (λ ns. tree_of v ds ls (xs ++ ns))
+    ∙ ap (file_outcome (ts ++ us)) (whole-joined (λ ns. tree_of v ds ls es (xs ++ ns))
     ((left_of (At Among)).read (map word_of us)))
-    ∙ begun-outcome ts us v ds ls xs (nodes_left false (map word_of us)) spell
+    ∙ begun-outcome ts us v ds ls es xs (nodes_left false (map word_of us)) spell
     (λ left bad. omega (
       arith,
       whole-within (left_of (At Among)) nodes-lawful (map word_of us) left bad,

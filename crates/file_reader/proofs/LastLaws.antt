@@ -293,16 +293,16 @@ stops-outcome s fault going h = subst (λ (w : List ℕ). Tells (behind s.stage 
 
 module _ (k : KnownFront) (f : Found) (t : IsTold k f) where
   abbrev tree : File
-  tree = tree_of k.version t.definitions t.program t.trees
+  tree = tree_of k.version t.definitions t.program t.ends t.trees
 
   fits : file.fits tree
   unfolding more_nodes
   fits =
       let ends = nodes-lawful.again [] [] tt tt in
-      subst (λ (xs : List Node). file.fits (tree_of k.version t.definitions t.program xs)) (append-nil t.trees)
-      (file-law.takes _ (tree_of k.version t.definitions t.program (t.trees ++ []), [])
+      subst (λ (xs : List Node). file.fits (tree_of k.version t.definitions t.program t.ends xs)) (append-nil t.trees)
+      (file-law.takes _ (tree_of k.version t.definitions t.program t.ends (t.trees ++ []), [])
       (t.spell.leads ((left_of (At Among)).words [] ++ [])
-      ∙ ap (λ (q : Reading (List Node)). joined (λ ns. tree_of k.version t.definitions t.program (t.trees ++ ns)) q)
+      ∙ ap (λ (q : Reading (List Node)). joined (λ ns. tree_of k.version t.definitions t.program t.ends (t.trees ++ ns)) q)
       ends)).2
 
   pub told-said : (front : FileFront) → k.front ≡ Some front → AreSaid k.version front.defs front.program f.nodes.items

@@ -14,5 +14,6 @@ mod HeldLaws
 mod EndLaws
 mod LastLaws
 mod StatementLaws
+mod EndFits
 mod FrontLaws
 mod BeginLaws

@@ -14,7 +14,7 @@ use Rattle.heap_reader.specs.Trees.{Heading, defined_headings}
 use Rattle.heap_reader.specs.Spans.{total}
 use Rattle.heap_reader.specs.Flaws.{Found as Flaws, or_later}
 use Rattle.heap_reader.proofs.WithinSpans.{Before}
-use Rattle.proof_syntax.specs.Trees.{Definition, Line, Node, File}
+use Rattle.proof_syntax.specs.Trees.{Definition, Line, End, Node, File}
 use Rattle.proof_syntax.specs.Grammar.{node}
 use Rattle.proof_syntax.specs.Keeping.{node_front}
 use Rattle.proof_syntax.proofs.FrontFits.{node-fits}
@@ -22,7 +22,7 @@ use Rattle.proof_syntax.specs.Left.{Part, Nodes as Among, At, Left, Statement, s
 use Rattle.proof_syntax.proofs.LeftLaws.{statement-law}
 use Rattle.proof_file.specs.Flaws.{headings, node_flaw, file_flaw}
 use Rattle.proof_file.specs.Spans.{node_span}
-use Rattle.proof_file.specs.Values.{definition_value, node_value}
+use Rattle.proof_file.specs.Values.{node_value}
 use Rattle.proof_file.proofs.FrontSpans.{node-span}
 use Rattle.proof_file.proofs.WithinSpans.{node_before}
 use Rattle.heap_reader.specs.Told.{item_fault}
@@ -133,9 +133,9 @@ told-within base before span ts us (Some f) le is lo hi = ap (λ t. Some (at_tok
 
 -- ---- values of definitions
 
-known-headings : (k : KnownFront) (ds : List Definition) (ls : List Line) → HasValues k ds ls
+known-headings : (k : KnownFront) (ds : List Definition) (ls : List Line) (es : List End) → HasValues k ds ls es
     → defined_headings (defs_in k.front) ≡ headings ds
-known-headings k ds ls v = ap (λ o. defined_headings (defs_in o)) v.is ∙ ap defined_headings v.definitions
+known-headings k ds ls es v = ap (λ o. defined_headings (defs_in o)) v.is ∙ ap defined_headings v.definitions
     ∙ values-headings (headings ds) ds
 
 total-more : (xs : List Node) (x : Node) → total node_span (xs ++ x ∷ []) ≡ total node_span xs + node_span x
@@ -230,27 +230,30 @@ module _ (k : KnownFront) (hs : List Heading) (h : IsHeads k hs) (before : ℕ) 
       abbrev ls : List Line
       ls = t.program
 
+      abbrev es : List End
+      es = t.ends
+
       abbrev xs : List Node
       xs = t.trees
 
       hs-is : hs ≡ headings ds
-      hs-is = h.value ∙ known-headings k ds ls t.values
+      hs-is = h.value ∙ known-headings k ds ls es t.values
 
       read : (statement_of Among).read (map word_of front) ≡ Ok (inl x, [])
       read = front-read Among us ws (inl x) e
 
       leads-words : Leads (map word_of ts0 ++ map word_of front) (At Among)
-          (λ ns. tree_of k.version ds ls (xs ++ x ∷ ns))
-      leads-words = lead-more Among (map word_of ts0) (map word_of front) (λ ns. tree_of k.version ds ls (xs ++ ns))
+          (λ ns. tree_of k.version ds ls es (xs ++ x ∷ ns))
+      leads-words = lead-more Among (map word_of ts0) (map word_of front) (λ ns. tree_of k.version ds ls es (xs ++ ns))
           (inl x) t.spell.leads read
 
-      leads-tokens : Leads (map word_of (ts0 ++ front)) (At Among) (λ ns. tree_of k.version ds ls (xs ++ x ∷ ns))
-      leads-tokens = subst (λ (vs : List Word). Leads vs (At Among) (λ ns. tree_of k.version ds ls (xs ++ x ∷ ns)))
+      leads-tokens : Leads (map word_of (ts0 ++ front)) (At Among) (λ ns. tree_of k.version ds ls es (xs ++ x ∷ ns))
+      leads-tokens = subst (λ (vs : List Word). Leads vs (At Among) (λ ns. tree_of k.version ds ls es (xs ++ x ∷ ns)))
           (sym (map-append word_of ts0 front)) leads-words
 
-      leads-on : Leads (map word_of (ts0 ++ front)) (At Among) (λ ns. tree_of k.version ds ls ((xs ++ x ∷ []) ++ ns))
+      leads-on : Leads (map word_of (ts0 ++ front)) (At Among) (λ ns. tree_of k.version ds ls es ((xs ++ x ∷ []) ++ ns))
       leads-on = subst (λ (g : Left (At Among) → File). Leads (map word_of (ts0 ++ front)) (At Among) g)
-          (λ i ns. tree_of k.version ds ls (sym (append_assoc xs (x ∷ []) ns) i)) leads-tokens
+          (λ i ns. tree_of k.version ds ls es (sym (append_assoc xs (x ∷ []) ns) i)) leads-tokens
 
       place : old.tokens ≡ length ts0
       place = t.count going
@@ -262,10 +265,10 @@ module _ (k : KnownFront) (hs : List Heading) (h : IsHeads k hs) (before : ℕ) 
       alone = sym (λ i. node_flaw (limits k.version) (hs-is i) (t.lines i) (number i) (place i) x)
           ∙ sym (same-flaw k.version hs k.lines (length old.nodes.items) old.tokens tree x is) ∙ clear
 
-      clean : file_flaw (tree_of k.version ds ls (xs ++ x ∷ [])) ≡ None
+      clean : file_flaw (tree_of k.version ds ls es (xs ++ x ∷ [])) ≡ None
       clean =
-          file-flaws k.version ds ls xs (x ∷ [])
-          ∙ ap (λ (n : ℕ). or_later (file_flaw (tree_of k.version ds ls xs))
+          file-flaws k.version ds ls es xs (x ∷ [])
+          ∙ ap (λ (n : ℕ). or_later (file_flaw (tree_of k.version ds ls es xs))
           (or_later (node_flaw (limits k.version) (headings ds) (length ls) (length xs) n x) None))
           (sym t.spell.size)
           ∙ (λ i. or_later (t.clean i) (or_later (alone i) None))
@@ -275,6 +278,7 @@ module _ (k : KnownFront) (hs : List Heading) (h : IsHeads k hs) (before : ℕ) 
         tokens = ts0 ++ front;
         definitions = ds;
         program = ls;
+        ends = es;
         trees = xs ++ x ∷ [];
         spell = record {
           leads = leads-on;
@@ -345,6 +349,7 @@ module _ (k : KnownFront) (us : List Placed) (ws : List Word) (old new : Found)
     tokens = t.tokens;
     definitions = t.definitions;
     program = t.program;
+    ends = t.ends;
     trees = t.trees;
     spell = t.spell;
     clean = t.clean;

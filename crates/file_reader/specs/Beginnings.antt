@@ -12,7 +12,7 @@ use Rattle.file_reader.specs.Outcomes.{told_flaw}
 use Rattle.file_reader.specs.Stages.{Head, Nodes}
 use Rattle.file_reader.specs.Steps.{tree_of, Takes}
 use Rattle.file_reader.specs.Knowns.{begun_in, HasValues, IsSteady}
-use Rattle.file_reader.specs.Fronts.{front_defs}
+use Rattle.file_reader.specs.Fronts.{front_defs, front_ends}
 
 -- no node so far
 pub record IsOpened (f : Front) (b : Beginning) : Type 0 where
@@ -25,8 +25,8 @@ pub record IsOpened (f : Front) (b : Beginning) : Type 0 where
 -- what stands before the nodes, with its first flaw, if any, at one of these tokens, or with its values
 pub record IsOpen (ts : List Placed) (f : Front) (b : Beginning) : Type 0 where
   pub opened : IsOpened f b
-  pub flaw : b.found.flaw ≡ told_flaw 0 ts (file_flaw (tree_of f.version (front_defs f) f.lines.items []))
-  pub values : b.found.flaw ≡ None → HasValues b.known (front_defs f) f.lines.items
+  pub flaw : b.found.flaw ≡ told_flaw 0 ts (file_flaw (tree_of f.version (front_defs f) f.lines.items (front_ends f) []))
+  pub values : b.found.flaw ≡ None → HasValues b.known (front_defs f) f.lines.items (front_ends f)
 
 -- tokens up to the first node were taken, and that too; these are the words of the others
 pub record IsBeginning (ts : List Placed) (rest : List Word) (b : Beginning) : Type 0 where

@@ -6,11 +6,11 @@ use Rattle.heap_syntax.specs.Versions.{limits}
 use Rattle.heap_formula.specs.declared.commands.Command.{Command}
 use Rattle.heap_formula.specs.Definitions.{Definition as DefinitionValue}
 use Rattle.heap_reader.specs.Trees.{Heading, defined_headings}
-use Rattle.heap_reader.specs.LineValues.{program_value}
-use Rattle.proof_syntax.specs.Trees.{Definition, Line, Node}
+use Rattle.heap_reader.specs.EndValues.{ended_value}
+use Rattle.proof_syntax.specs.Trees.{Definition, Line, End, Node}
 use Rattle.proof_file.specs.declared.building.FileFront.{FileFront}
 use Rattle.proof_file.specs.Flaws.{headings, node_flaw, file_flaw}
-use Rattle.proof_file.specs.Values.{definition_value, node_value}
+use Rattle.proof_file.specs.Values.{definition_value, term_value, node_value}
 use Rattle.file_reader.specs.declared.known.KnownFront.{KnownFront}
 use Rattle.file_reader.specs.declared.known.Found.{Found}
 use Rattle.file_reader.specs.Outcomes.{or_else, told_flaw}
@@ -45,23 +45,24 @@ pub record IsHeads (k : KnownFront) (hs : List Heading) : Type 0 where
   pub value : hs ≡ defined_headings (defs_in k.front)
   pub few : length hs ≤ MOST_PREDICATES
 
--- these are the values of definitions and lines
-pub record HasValues (k : KnownFront) (ds : List Definition) (ls : List Line) : Type 0 where
+-- these are the values of definitions, lines and ends
+pub record HasValues (k : KnownFront) (ds : List Definition) (ls : List Line) (es : List End) : Type 0 where
   pub front : FileFront
   pub is : k.front ≡ Some front
   pub most : front.defs.most ≡ limits k.version
   pub definitions : front.defs.list ≡ map (definition_value (headings ds)) ds
-  pub program : front.program ≡ program_value ls
+  pub program : front.program ≡ ended_value term_value (headings ds) ls es
 
 -- tokens spell what is held, which has no flaw
 pub record IsTold (k : KnownFront) (f : Found) : Type 0 where
   pub tokens : List Placed
   pub definitions : List Definition
   pub program : List Line
+  pub ends : List End
   pub trees : List Node
-  pub spell : Spell tokens k.version definitions program trees
-  pub clean : file_flaw (tree_of k.version definitions program trees) ≡ None
-  pub values : HasValues k definitions program
+  pub spell : Spell tokens k.version definitions program ends trees
+  pub clean : file_flaw (tree_of k.version definitions program ends trees) ≡ None
+  pub values : HasValues k definitions program ends
   pub lines : k.lines ≡ length program
   pub nodes : f.nodes.items ≡ map (node_value (headings definitions)) trees
   pub count : f.ended ≡ false → f.tokens ≡ length tokens

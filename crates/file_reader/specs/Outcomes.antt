@@ -17,8 +17,8 @@ use Rattle.proof_syntax.specs.Grammar.{file}
 use Rattle.proof_file.specs.declared.file.ProofFile.{ProofFile}
 use Rattle.proof_file.specs.FileNodes.{FileNode}
 use Rattle.proof_file.specs.Flaws.{headings, file_flaw}
-use Rattle.heap_reader.specs.LineValues.{program_value}
-use Rattle.proof_file.specs.Values.{definition_value, node_value}
+use Rattle.heap_reader.specs.EndValues.{ended_value}
+use Rattle.proof_file.specs.Values.{definition_value, term_value, node_value}
 
 -- what a proof file says
 pub record Said : Type 0 where
@@ -78,7 +78,7 @@ abbrev pub said_of : File → Said
 said_of tree = record {
   version = tree.version;
   definitions = map (definition_value (headings tree.definitions)) tree.definitions;
-  program = program_value tree.lines;
+  program = ended_value term_value (headings tree.definitions) tree.lines tree.ends;
   nodes = map (node_value (headings tree.definitions)) tree.nodes;
 }
 

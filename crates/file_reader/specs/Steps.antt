@@ -1,5 +1,5 @@
 -- What a reader of a proof file does with the tokens of a statement.
-use Rattle.std.specs.Prelude.{◌≡◌, ℕ, suc, ◌+◌, true, false, List, [], ◌∷◌, ◌++◌, length, map}
+use Rattle.std.specs.Prelude.{◌≡◌, ℕ, suc, ◌+◌, ◌⊎◌, true, false, List, [], ◌∷◌, ◌++◌, length, map}
 use Rattle.std.proofs.Common.{inl, inr}
 use Rattle.cyc_lex.specs.Placed.{Placed}
 use Rattle.cyc_lex.specs.Word.{Word, word_of}
@@ -7,14 +7,16 @@ use Rattle.heap_syntax.specs.declared.version.Version.{Version}
 use Rattle.heap_syntax.specs.Versions.{limits}
 use Rattle.heap_reader.specs.Spans.{total}
 use Rattle.heap_reader.specs.LineSpans.{line_span}
-use Rattle.proof_syntax.specs.Trees.{Definition, Line, Node, File}
+use Rattle.heap_reader.specs.EndSpans.{end_span}
+use Rattle.proof_syntax.specs.Trees.{Definition, Line, End, Node, File}
 use Rattle.proof_syntax.specs.Grammar.{file}
-use Rattle.proof_syntax.specs.Left.{Part, First, Preds, Lines, Nodes as Among, Reached, At, Left, left_of, Statement}
+use Rattle.proof_syntax.specs.Left.{Part, First, Preds, Lines, Ends, Nodes as Among, Reached, At, Left, left_of}
+use Rattle.proof_syntax.specs.Left.{Statement}
 use Rattle.proof_syntax.specs.Left.{joined}
 use Rattle.proof_file.specs.Flaws.{headings, node_flaw, first_node, file_flaw}
-use Rattle.proof_file.specs.Spans.{definition_span, variable_span, node_span}
-use Rattle.heap_reader.specs.LineValues.{program_value}
-use Rattle.proof_file.specs.Values.{definition_value, node_value}
+use Rattle.proof_file.specs.Spans.{definition_span, variable_span, term_span, node_span}
+use Rattle.heap_reader.specs.EndValues.{ended_value}
+use Rattle.proof_file.specs.Values.{definition_value, term_value, node_value}
 use Rattle.file_reader.specs.Outcomes.{or_else, told_flaw}
 use Rattle.file_reader.specs.Stages.{Begun, Stage, ahead}
 
@@ -23,13 +25,20 @@ abbrev pub Takes : Stage → List Placed → Stage → Type 0
 Takes old ts new = (us : List Placed) → ahead old (ts ++ us) ≡ ahead new us
 
 -- how many tokens a statement has
+abbrev pub end_or_node_span : End ⊎ Node → ℕ
+end_or_node_span (inl e) = end_span term_span e
+end_or_node_span (inr n) = node_span n
+
+abbrev pub later_span : Line ⊎ (End ⊎ Node) → ℕ
+later_span (inl l) = line_span variable_span l
+later_span (inr s) = end_or_node_span s
+
 abbrev pub span_of : (p : Part) → Statement p → ℕ
 span_of First v = 4
 span_of (Preds v) (inl d) = definition_span d
-span_of (Preds v) (inr (inl l)) = line_span variable_span l
-span_of (Preds v) (inr (inr n)) = node_span n
-span_of (Lines v) (inl l) = line_span variable_span l
-span_of (Lines v) (inr n) = node_span n
+span_of (Preds v) (inr s) = later_span s
+span_of (Lines v) s = later_span s
+span_of (Ends v) s = end_or_node_span s
 span_of Among (inl n) = node_span n
 span_of Among (inr u) = 2
 
@@ -39,27 +48,27 @@ span_of Among (inr u) = 2
 abbrev pub Leads : List Word → (r : Reached) → (Left r → File) → Type 0
 Leads ws r f = (more : List Word) → file.read (ws ++ more) ≡ joined f ((left_of r).read more)
 
-abbrev pub tree_of : Version → List Definition → List Line → List Node → File
-tree_of v ds ls xs = record { version = v; definitions = ds; lines = ls; nodes = xs }
+abbrev pub tree_of : Version → List Definition → List Line → List End → List Node → File
+tree_of v ds ls es xs = record { version = v; definitions = ds; lines = ls; ends = es; nodes = xs }
 
--- the tokens spell the version, definitions, lines and nodes
-pub record Spell (ts : List Placed) (v : Version) (ds : List Definition) (ls : List Line) (xs : List Node)
-    : Type 0 where
-  pub leads : Leads (map word_of ts) (At Among) (λ ns. tree_of v ds ls (xs ++ ns))
-  pub size : length ts ≡ first_node (tree_of v ds ls xs) + total node_span xs
+-- the tokens spell the version, definitions, lines, ends and nodes
+pub record Spell (ts : List Placed) (v : Version) (ds : List Definition) (ls : List Line) (es : List End)
+    (xs : List Node) : Type 0 where
+  pub leads : Leads (map word_of ts) (At Among) (λ ns. tree_of v ds ls es (xs ++ ns))
+  pub size : length ts ≡ first_node (tree_of v ds ls es xs) + total node_span xs
 
 -- what is kept of them
-abbrev pub begun_of : List Placed → Version → List Definition → List Line → List Node → Begun
-begun_of ts v ds ls xs = record {
+abbrev pub begun_of : List Placed → Version → List Definition → List Line → List End → List Node → Begun
+begun_of ts v ds ls es xs = record {
   version = v;
   headings = headings ds;
   lines = length ls;
   definitions = map (definition_value (headings ds)) ds;
-  program = program_value ls;
+  program = ended_value term_value (headings ds) ls es;
   nodes = map (node_value (headings ds)) xs;
   count = length xs;
   tokens = length ts;
-  flaw = told_flaw 0 ts (file_flaw (tree_of v ds ls xs));
+  flaw = told_flaw 0 ts (file_flaw (tree_of v ds ls es xs));
   ended = false;
 }
 

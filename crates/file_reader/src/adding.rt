@@ -6,7 +6,7 @@ ghost use Rattle.cyc_basics.specs.declared.limits.TheConstants.{MOST_PREDICATES}
 ghost use Rattle.proof_syntax.specs.Grammar.{node};
 ghost use Rattle.proof_syntax.specs.Trees.{node_of};
 ghost use Rattle.proof_syntax.specs.Left.{Nodes, kept_statement};
-ghost use Rattle.proof_syntax.specs.StatementTrees.{node_or_end_of};
+ghost use Rattle.proof_syntax.specs.StatementTrees.{node_or_last_of};
 ghost use Rattle.proof_file.specs.Spans.{node_span};
 ghost use Rattle.file_reader.specs.Fronts.{kept};
 ghost use Rattle.file_reader.specs.Stretches.{IsStretch, tokens_of};
@@ -21,7 +21,7 @@ use cyc_lex::OutOfMemory;
 use heap_reader::Heads;
 use proof_file::{NodeFault, node_of_tree};
 use proof_syntax::NodeTree;
-use proof_syntax::statements::NodeOrEnd;
+use proof_syntax::statements::NodeOrLast;
 use std::alloc::Global;
 
 /// Finds what the next node says, whose tokens are some of these. After a flaw no value is made or held.
@@ -65,7 +65,7 @@ pub fn add_statement(
     known: &KnownFront,
     heads: &Heads<'_>,
     stretch: Stretch<'_>,
-    statement: &NodeOrEnd<'_>,
+    statement: &NodeOrLast<'_>,
     cursor: &Cursor<'_, '_>,
     found: &mut Found,
 ) -> Result<(), OutOfMemory>
@@ -76,19 +76,19 @@ pub fn add_statement(
     requires later { stretch.before ≤ found.old.tokens }
     requires within { found.old.tokens ≤ stretch.before + stretch.count }
     requires read { (kept_statement kept Nodes).read (map word_of (left_from stretch found.old.tokens))
-        ≡ Ok (node_or_end_of statement.now, cursor.now) }
+        ≡ Ok (node_or_last_of statement.now, cursor.now) }
     ensures taken { IfOk result (λ _. IsStepTaken known.now
         (take (found.new.tokens - found.old.tokens) (left_from stretch.entry found.old.tokens)) found.old found.new) }
     ensures stands { IfOk result (λ _. StandsIn stretch.entry found.new.tokens cursor.now) }
 {
     let tokens = stretch.before + (stretch.count - cursor.left()) as u32;
     match statement {
-        NodeOrEnd::Node(tree) => {
+        NodeOrLast::Node(tree) => {
             add_node(alloc, known, heads, stretch, tree, found)?;
             found.tokens = tokens;
             Ok(())
         }
-        NodeOrEnd::End => {
+        NodeOrLast::Last => {
             found.tokens = tokens;
             found.ended = true;
             Ok(())

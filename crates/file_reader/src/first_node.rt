@@ -4,7 +4,8 @@ ghost use Rattle.std.specs.Prelude.{◌≡◌, ◌≤◌, ◌<◌, ◌^◌, [], 
 ghost use Rattle.cyc_lex.specs.Word.{word_of};
 ghost use Rattle.proof_file.specs.Flaws.{headings, first_node};
 ghost use Rattle.file_reader.specs.Stretches.{IsStretch, tokens_of};
-ghost use Rattle.file_reader.specs.Fronts.{front_defs, IsBegun};
+ghost use Rattle.proof_syntax.specs.Grammar.{ends};
+ghost use Rattle.file_reader.specs.Fronts.{front_defs, front_ends, IsBegun};
 ghost use Rattle.file_reader.specs.Steps.{tree_of};
 ghost use Rattle.file_reader.specs.Beginnings.{IsOpened, IsOpen, IsBeginning, Begins};
 
@@ -63,12 +64,19 @@ fn open(
     requires stretch { IsStretch stretch }
     requires first { stretch.before ≡ 0 }
     requires known { heads.now ≡ headings (front_defs front.now) }
-    requires within { first_node (tree_of front.now.version (front_defs front.now) front.now.lines.items [])
-        ≤ front.now.before }
+    requires within { first_node (tree_of front.now.version (front_defs front.now) front.now.lines.items
+        (front_ends front.now) []) ≤ front.now.before }
+    requires fits { (ends front.now.version).fits (front_ends front.now) }
     requires before { front.now.before ≤ stretch.count }
     ensures { IfOk result (IsOpen (tokens_of stretch.entry) front.now) }
 {
-    match front_flaw(heads, front.version, &front.definitions, &front.lines) {
+    match front_flaw(
+        heads,
+        front.version,
+        &front.definitions,
+        &front.lines,
+        &front.ends,
+    ) {
         Some(flaw) => Ok(opened(alloc, front, Some(stretch.flaw(flaw)), None)),
         None => {
             let values = front_values(
@@ -77,6 +85,7 @@ fn open(
                 front.version,
                 &front.definitions,
                 &front.lines,
+                &front.ends,
             )?;
             Ok(opened(alloc, front, None, Some(values)))
         }

@@ -16,7 +16,7 @@ use cyc_grammar::{Cursor, Refusal};
 use cyc_lex::ReadFault;
 use heap_reader::Heads;
 use proof_file::{ProofFile, file_of_values};
-use proof_syntax::statements::kept_node_or_end;
+use proof_syntax::statements::kept_node_or_last;
 use std::alloc::Global;
 
 /// Reads the nodes that are left, and the last statement.
@@ -35,7 +35,7 @@ fn read_left(
     ensures { Lasts known.now stretch.entry found.old found.new cursor.new result }
 {
     'nodes: while !found.ended {
-        let statement = kept_node_or_end(alloc, KEPT, cursor)?;
+        let statement = kept_node_or_last(alloc, KEPT, cursor)?;
         let added = add_statement(alloc, known, heads, stretch, &statement, cursor, found);
         drop(statement);
         added?;

@@ -31,7 +31,7 @@ ghost use Rattle.cyc_grammar.specs.Classes.{the_end};
 ghost use Rattle.piecewise_lex.specs.Feeding.{tokens_from, valid_chars, is_cut};
 ghost use Rattle.piecewise_lex.specs.Taking.{reading, tokens_in};
 ghost use Rattle.heap_syntax.specs.declared.version.Version.{Version};
-ghost use Rattle.proof_syntax.specs.Trees.{Definition, Line, Node, File};
+ghost use Rattle.proof_syntax.specs.Trees.{Definition, Line, End, Node, File};
 ghost use Rattle.proof_syntax.specs.Grammar.{file};
 ghost use Rattle.proof_syntax.specs.Left.{Part, At, First, Left, Statement, statement_of, next, join};
 ghost use Rattle.proof_syntax.specs.Left.{Nodes as Among};
@@ -111,8 +111,8 @@ pub fn statements_have_spans()
 
 /// Where the first nodes are read, values may stand for all tokens so far.
 pub fn values_stand_for_tokens()
-    ensures { (ts : List Placed) (v : Version) (ds : List Definition) (ls : List Line) (xs : List Node)
-        → Spell ts v ds ls xs → Takes (Head ts) [] (Nodes (begun_of ts v ds ls xs)) }
+    ensures { (ts : List Placed) (v : Version) (ds : List Definition) (ls : List Line) (es : List End) (xs : List Node)
+        → Spell ts v ds ls es xs → Takes (Head ts) [] (Nodes (begun_of ts v ds ls es xs)) }
 {}
 
 /// From the first node on, a node's value stands for its tokens, and a fault of a statement is the fault of the file.

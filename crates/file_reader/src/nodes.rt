@@ -6,7 +6,7 @@ ghost use Rattle.cyc_lex.specs.Placed.{placed};
 ghost use Rattle.cyc_lex.specs.Word.{word_of};
 ghost use Rattle.cyc_grammar.specs.Classes.{are_tokens};
 ghost use Rattle.proof_syntax.specs.Left.{Nodes, kept_statement};
-ghost use Rattle.proof_syntax.specs.StatementTrees.{node_or_end_of};
+ghost use Rattle.proof_syntax.specs.StatementTrees.{node_or_last_of};
 ghost use Rattle.file_reader.specs.Fronts.{kept};
 ghost use Rattle.file_reader.specs.Stretches.{IsStretch, tokens_of};
 ghost use Rattle.file_reader.specs.Knowns.{IsHeads, IsSteady};
@@ -20,7 +20,7 @@ use cyc_grammar::{Cursor, Refusal};
 use cyc_lex::{OutOfMemory, Place, ReadFault, Stop};
 use heap_reader::Heads;
 use piecewise_lex::take_statement;
-use proof_syntax::statements::{NodeOrEnd, kept_node_or_end};
+use proof_syntax::statements::{NodeOrLast, kept_node_or_last};
 use std::alloc::Global;
 
 /// What the tokens of one statement come to: it was taken; the first dead one of them has so many to the end; or they
@@ -63,7 +63,7 @@ fn take_whole(
     known: &KnownFront,
     heads: &Heads<'_>,
     stretch: Stretch<'_>,
-    statement: &NodeOrEnd<'_>,
+    statement: &NodeOrLast<'_>,
     cursor: &Cursor<'_, '_>,
     found: &mut Found,
 ) -> Result<NodeStep, OutOfMemory>
@@ -73,7 +73,7 @@ fn take_whole(
     requires here { stretch.before ≡ found.old.tokens }
     requires going { found.old.ended ≡ false }
     requires read { (kept_statement kept Nodes).read (map word_of (tokens_of stretch))
-        ≡ Ok (node_or_end_of statement.now, cursor.now) }
+        ≡ Ok (node_or_last_of statement.now, cursor.now) }
     ensures { IfOk result (IsStep known.now (tokens_of stretch.entry) found.old found.new) }
 {
     if cursor.left() > 0 {
@@ -101,7 +101,7 @@ fn take_node(
     ensures { IfOk result (IsStep known.now (tokens_of stretch.entry) found.old found.new) }
 {
     let mut cursor = cursor;
-    match kept_node_or_end(alloc, KEPT, &mut cursor) {
+    match kept_node_or_last(alloc, KEPT, &mut cursor) {
         Ok(statement) => {
             let taken = take_whole(alloc, known, heads, stretch, &statement, &cursor, found);
             drop(statement);

@@ -7,24 +7,41 @@ ghost use Rattle.file_reader.specs.Fronts.{kept_part};
 use cyc_basics::limits::MOST_PURE;
 use cyc_grammar::{Cursor, Refusal};
 use heap_syntax::{Keep, Version};
-use proof_syntax::statements::{PredOrLater, kept_line_or_node, kept_pred_or_later};
+use proof_syntax::statements::{
+    LineOrLater, PredOrLater, kept_end_or_node, kept_line_or_later, kept_pred_or_later,
+};
 use std::alloc::Global;
 
 /// More than any limit allows, the greatest of which is that of pure atoms: a longer list has a flaw before what is
 /// left out.
 pub const KEPT: Keep = Keep::Beyond(MOST_PURE);
 
-/// A definition, a line or a node, or after lines one of the last two.
+/// What was read last of what stands before the nodes; the first statement counts as a definition.
+#[derive(Clone, Copy)]
+pub enum Behind {
+    Definitions,
+    Lines,
+    Ends,
+}
+
+/// A definition, a line, an end or a node; after lines no definition, and after ends no line.
 pub fn read_part<'a>(
     alloc: Global,
     version: Version,
-    in_lines: bool,
+    behind: Behind,
     cursor: &mut Cursor<'_, 'a>,
 ) -> Result<PredOrLater<'a>, Refusal>
-    ensures { Gives (λ s. (pred_or_later_of s, cursor.new)) result (kept_part in_lines version cursor.old) }
+    ensures { Gives (λ s. (pred_or_later_of s, cursor.new)) result (kept_part behind version cursor.old) }
 {
-    if in_lines {
-        return Ok(PredOrLater::Later(kept_line_or_node(alloc, KEPT, version, cursor)?));
+    match behind {
+        Behind::Definitions => kept_pred_or_later(alloc, KEPT, version, cursor),
+        Behind::Lines => {
+            let later = kept_line_or_later(alloc, KEPT, version, cursor)?;
+            Ok(PredOrLater::Later(later))
+        }
+        Behind::Ends => {
+            let later = kept_end_or_node(alloc, KEPT, version, cursor)?;
+            Ok(PredOrLater::Later(LineOrLater::Later(later)))
+        }
     }
-    kept_pred_or_later(alloc, KEPT, version, cursor)
 }

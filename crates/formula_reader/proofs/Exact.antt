@@ -29,6 +29,7 @@ use Rattle.cyc_grammar.specs.Classes.{is_free_name}
 use Rattle.heap_syntax.specs.Words.{reserved}
 use Rattle.heap_syntax.specs.declared.version.Version.{Version}
 use Rattle.rule_book.specs.Limits.{HasFields, IsHeapWithin, IsJudgementWithin, IsCaseWithin, IsDefinitionWithin}
+use Rattle.rule_book.specs.Limits.{IsCommandWithin, AreEndsWithin}
 use Rattle.heap_formula.proofs.AllMembers.{each_imply, each_at}
 use Rattle.cyc_basics.proofs.Options.{none_is, neither_some}
 use Rattle.formula_reader.specs.declared.limits.excess.HeapExcess.TheVariants.{Atoms, Variable, Predicate, Fields}
@@ -40,11 +41,14 @@ use Rattle.formula_reader.specs.declared.limits.excess.JudgementExcess.TheVarian
 use Rattle.formula_reader.specs.declared.limits.excess.JudgementExcess.TheVariants.{Existential}
 use Rattle.formula_reader.specs.declared.limits.excess.ProblemExcess.{ProblemExcess}
 use Rattle.formula_reader.specs.declared.limits.excess.ProblemExcess.TheVariants.{Definition as OfDefinition}
-use Rattle.formula_reader.specs.declared.limits.excess.ProblemExcess.TheVariants.{Command as OfCommand, Goal as OfGoal}
+use Rattle.formula_reader.specs.declared.limits.excess.ProblemExcess.TheVariants.{Command as OfCommand, End as OfEnd}
+use Rattle.formula_reader.specs.declared.limits.excess.ProblemExcess.TheVariants.{Goal as OfGoal}
 use Rattle.formula_reader.specs.Within.{HaveOwnNames, IsCommandOf, IsProblemWithin}
 use Rattle.formula_reader.specs.Excess.{first_of, has_fields, is_use, heap_excess, case_excess, case_at}
 use Rattle.formula_reader.specs.Excess.{definition_excess, definition_at, definitions_excess, is_command_of, line_at}
-use Rattle.formula_reader.specs.Excess.{lines_excess, antecedent_excess, disjunct_at, judgement_excess, problem_excess}
+use Rattle.formula_reader.specs.Excess.{lines_excess, end_disjunct_at, end_at, ends_excess, antecedent_excess}
+use Rattle.formula_reader.specs.Excess.{disjunct_at}
+use Rattle.formula_reader.specs.Excess.{judgement_excess, problem_excess}
 use Rattle.formula_reader.proofs.Universal.{universal_heap, universal_heap_passes}
 use Rattle.formula_reader.proofs.Firsts.{each_passes, all_pass, not_chosen, none_chosen, chosen_none, none_where}
 use Rattle.formula_reader.proofs.Firsts.{passed, not_failed, unmapped, mapped_none, both_none, none_of_each}
@@ -261,6 +265,7 @@ command_is version most (commands.IfEq t u j) e = tt
 command_is version most (commands.IfNeq t u j) e = tt
 command_is version most (commands.Goto j) e = tt
 command_is version most commands.Stop e = tt
+command_is version most (commands.Ends bs) e = e
 
 command_passes : (version : Version) (most : Limits) (c : Command) → IsCommandOf version most c
     → is_command_of version most c ≡ true
@@ -274,6 +279,7 @@ command_passes version most (commands.IfEq t u j) e = refl
 command_passes version most (commands.IfNeq t u j) e = refl
 command_passes version most (commands.Goto j) e = refl
 command_passes version most commands.Stop e = refl
+command_passes version most (commands.Ends bs) e = e
 
 lines_exact : (version : Version) (most : Limits) (cs : List Command) → lines_excess version most cs ≡ None
     → Each (IsCommandOf version most) cs
@@ -394,13 +400,43 @@ module _ (most : Limits) (ds : List Definition) where
             (judgement_none count (Runs i a) within)).1)),
       )
 
+-- ---- ends
+
+module _ (most : Limits) (ds : List Definition) where
+  -- the disjuncts of an end
+  pub end_exact : (line : ℕ) (bs : List SymbolicHeap) → first_of (end_disjunct_at most ds line) 0 bs ≡ None
+      → Each (IsHeapWithin most ds) bs
+  end_exact line bs e =
+      each_from (IsHeapWithin most ds) bs (λ i b at. heap_exact most ds b
+      (unmapped (OfEnd line (0 + i)) (heap_excess most ds b)
+      (none_of_each (end_disjunct_at most ds line) 0 bs e i b at)))
+
+  end_none : (n : ℕ) (c : Command) → IsCommandWithin most ds c → end_at most ds n c ≡ None
+  end_none n (commands.Ends bs) w =
+      each_of_none (end_disjunct_at most ds (n + 1)) 0 bs (λ i b at. mapped_none (OfEnd (n + 1) (0 + i))
+      (heap_excess most ds b) (heap_none most ds b (each_at (IsHeapWithin most ds) bs i b at w.0)))
+  end_none n (commands.Assign x t) w = refl
+  end_none n (commands.Load x t k) w = refl
+  end_none n (commands.Store t k u) w = refl
+  end_none n (commands.New x k) w = refl
+  end_none n (commands.Free t) w = refl
+  end_none n (commands.IfEq t u j) w = refl
+  end_none n (commands.IfNeq t u j) w = refl
+  end_none n (commands.IfAny j) w = refl
+  end_none n (commands.Goto j) w = refl
+  end_none n commands.Stop w = refl
+
+  ends_none : (cs : List Command) → AreEndsWithin most ds cs → ends_excess most ds cs ≡ None
+  ends_none cs w = each_of_none (end_at most ds) 0 cs
+      (λ i c at. end_none (0 + i) c (each_at (IsCommandWithin most ds) cs i c at w))
+
 -- ---- problems
 
 module _ (version : Version) (most : Limits) (ds : List Definition) (lines : List Command) (goal : Judgement) where
   pub problem_exact : length ds ≤ 4096 → IsProgram lines → IsJudgementWithin most ds (length lines) goal
-      → definitions_excess most ds ≡ None → lines_excess version most lines ≡ None
+      → definitions_excess most ds ≡ None → lines_excess version most lines ≡ None → AreEndsWithin most ds lines
       → IsProblemWithin version most ds lines goal
-  problem_exact few program judged none known =
+  problem_exact few program judged none known ends =
       let good = λ (n : ℕ) (d : Definition) (at : slice_get ds n ≡ Some d). definition_exact most ds (0 + n) d
       (unmapped (OfDefinition (0 + n)) (definition_excess most ds (0 + n) d)
       (none_of_each (definition_at most ds) 0 ds none n d at)) in
@@ -413,6 +449,7 @@ module _ (version : Version) (most : Limits) (ds : List Definition) (lines : Lis
             subst (λ (m : ℕ). has_name (take m ds) d.name ≡ false) here (good n d at).new));
         program = program;
         commands = lines_exact version most lines known;
+        ends = ends;
         goal = judged;
       }
 
@@ -429,8 +466,9 @@ module _ (version : Version) (most : Limits) (ds : List Definition) (lines : Lis
       }))) in
       both_none (definitions_excess most ds) _ definitions
       (both_none (lines_excess version most lines) _ (lines_none version most lines w.commands)
+      (both_none (ends_excess most ds lines) _ (ends_none most ds lines w.ends)
       (mapped_none OfGoal (judgement_excess most ds (length lines) goal)
-      (judgement_none most ds (length lines) goal w.goal)))
+      (judgement_none most ds (length lines) goal w.goal))))
 
   -- ---- what is found of a problem, by the cases of its code
 
@@ -442,13 +480,15 @@ module _ (version : Version) (most : Limits) (ds : List Definition) (lines : Lis
   -- the parts of what is found of a problem that is within them
   parts_none : IsProblemWithin version most ds lines goal
       → (definitions_excess most ds ≡ None) × (lines_excess version most lines ≡ None)
-      × (judgement_excess most ds (length lines) goal ≡ None)
+      × (ends_excess most ds lines ≡ None) × (judgement_excess most ds (length lines) goal ≡ None)
   parts_none w =
       let judged = judgement_excess most ds (length lines) goal in
-      let first = neither_some (definitions_excess most ds)
-      (option_or (lines_excess version most lines) (option_map OfGoal judged)) (problem_none w) in
-      let second = neither_some (lines_excess version most lines) (option_map OfGoal judged) first.1 in
-      (first.0, second.0, unmapped OfGoal judged second.1)
+      let behind = option_or (ends_excess most ds lines) (option_map OfGoal judged) in
+      let first = neither_some (definitions_excess most ds) (option_or (lines_excess version most lines) behind)
+      (problem_none w) in
+      let second = neither_some (lines_excess version most lines) behind first.1 in
+      let third = neither_some (ends_excess most ds lines) (option_map OfGoal judged) second.1 in
+      (first.0, second.0, third.0, unmapped OfGoal judged third.1)
 
   pub definitions_over : (r : Option ProblemExcess) (e : ProblemExcess) → r ≡ definitions_excess most ds → r ≡ Some e
       → TellsOfAll (Some e)
@@ -462,11 +502,18 @@ module _ (version : Version) (most : Limits) (ds : List Definition) (lines : Lis
         ∙ (parts_none w).1,
   )
 
+  pub ends_over : (r : Option ProblemExcess) (e : ProblemExcess) (cs : List Command) → cs ≡ lines
+      → r ≡ ends_excess most ds cs → r ≡ Some e → TellsOfAll (Some e)
+  ends_over r e cs same found here = (
+    λ none. absurd cc,
+    λ w. sym here ∙ found ∙ ap (ends_excess most ds) same ∙ (parts_none w).2,
+  )
+
   pub goal_over : (r : Option JudgementExcess) (e : JudgementExcess) → r ≡ judgement_excess most ds (length lines) goal
       → r ≡ Some e → TellsOfAll (Some (OfGoal e))
   goal_over r e found here = (
     λ none. absurd cc,
     λ w. (
-        let none : Some e ≡ None = sym here ∙ found ∙ (parts_none w).2 in
+        let none : Some e ≡ None = sym here ∙ found ∙ (parts_none w).3 in
         absurd cc),
   )

@@ -7,7 +7,7 @@ use Rattle.heap_formula.specs.declared.commands.Command.{Command}
 use Rattle.heap_formula.specs.Definitions.{Definition}
 use Rattle.heap_formula.specs.Words.{Each}
 use Rattle.goto_lang.specs.Lines.{IsProgram}
-use Rattle.rule_book.specs.Limits.{IsDefinitionWithin}
+use Rattle.rule_book.specs.Limits.{IsDefinitionWithin, AreEndsWithin}
 use Rattle.heap_syntax.specs.declared.version.Version.{Version}
 use Rattle.heap_syntax.specs.declared.version.Version.TheVariants.{One, Two, Three}
 use Rattle.heap_syntax.specs.Versions.{limits}
@@ -16,7 +16,8 @@ use Rattle.heap_reader.proofs.Fitting.{most_fits}
 use Rattle.proof_syntax.specs.Grammar as grammar
 use Rattle.proof_file.specs.FileNodes.{FileNode}
 use Rattle.proof_file.specs.Spans.{definition_span, node_span}
-use Rattle.proof_file.specs.Flaws.{definition_flaw, program_flaw, node_flaw, first_line, first_node, nodes_flaw}
+use Rattle.proof_file.specs.Flaws.{definition_flaw, program_flaw, program_ends_flaw, node_flaw, first_line}
+use Rattle.proof_file.specs.Flaws.{first_end, first_node, file_ends_flaw, nodes_flaw}
 use Rattle.proof_file.specs.Flaws.{file_flaw}
 use Rattle.proof_file.specs.Written.{node_tree, tree_of}
 use Rattle.formula_reader.specs.Nodes.{IsNodeWithin}
@@ -24,6 +25,7 @@ use Rattle.formula_reader.proofs.Lists.{none_later}
 use Rattle.formula_reader.proofs.Names.{few_parameters, heads_of}
 use Rattle.formula_reader.specs.Within.{HaveFreeNames, HaveOwnNames}
 use Rattle.formula_reader.proofs.ProgramLines.{program_fits, lines_long, program_flawless}
+use Rattle.formula_reader.proofs.ProgramEnds.{ends_fit, ends_flawless}
 use Rattle.formula_reader.specs.Within.{IsCommandOf}
 use Rattle.formula_reader.proofs.DefinitionTrees.{definitions_fit, definitions_flawless}
 use Rattle.formula_reader.proofs.NodesFit.{nodes_fit}
@@ -39,7 +41,8 @@ eight_arguments Three = omega arith
 
 module _ (version : Version) (limit : Limits) (same : limit ≡ limits version) (ds : List Definition)
     (cs : List Command) (ns : List FileNode) (w : Each (IsDefinitionWithin limit ds) ds) (program : IsProgram cs)
-    (known : Each (IsCommandOf version limit) cs) (nodes : Each (IsNodeWithin limit ds (length cs)) ns) where
+    (known : Each (IsCommandOf version limit) cs) (ended : AreEndsWithin limit ds cs)
+    (nodes : Each (IsNodeWithin limit ds (length cs)) ns) where
   pub file_fits : HaveFreeNames ds → 0 < length ns → grammar.file.fits (tree_of version ds cs ns)
   unfolding grammar.file grammar.body grammar.definitions
   file_fits free some =
@@ -51,7 +54,10 @@ module _ (version : Version) (limit : Limits) (same : limit ≡ limits version) 
             definitions_fit limit bounded ds free w,
             (
               program_fits version limit cs program known,
-              nodes_fit limit ds (length cs) free program.few_lines ns some nodes,
+              (
+                ends_fit version limit ds cs free program ended known,
+                nodes_fit limit ds (length cs) free program.few_lines ns some nodes,
+              ),
             ),
           ),
         ),
@@ -66,6 +72,9 @@ module _ (version : Version) (limit : Limits) (same : limit ≡ limits version) 
       let first = definitions_flawless limit wide ds few own w in
       let second = subst (λ (most : Limits). program_flaw most (first_line file) file.lines ≡ None) same
       (program_flawless version limit cs program known (first_line file)) in
+      let few_heads = few_parameters limit ds ds w in
+      let ends = subst (λ (most : Limits). program_ends_flaw most hs file.lines (first_end file) file.ends ≡ None) same
+      (ends_flawless limit wide ds own few_heads cs program ended (first_end file)) in
       let third = subst (λ (count : ℕ). listed_flaw (node_flaw limit hs count) node_span 0 (first_node file)
       (map (node_tree ds) ns) ≡ None) (sym (lines_long 0 cs))
       (nodes_flawless limit wide ds (length cs) own (few_parameters limit ds ds w) ns most nodes (first_node file)) in
@@ -75,8 +84,11 @@ module _ (version : Version) (limit : Limits) (same : limit ≡ limits version) 
       let third_here = subst (λ (most : Limits). listed_flaw (node_flaw most hs (length file.lines)) node_span 0
       (first_node file) file.nodes ≡ None) same third in
       none_later (listed_flaw (definition_flaw (limits version) hs) definition_span 0 4 file.definitions)
-      (or_later (program_flaw (limits version) (first_line file) file.lines) (nodes_flaw file)) first_here
-      (none_later (program_flaw (limits version) (first_line file) file.lines) (nodes_flaw file) second third_here)
+      (or_later (program_flaw (limits version) (first_line file) file.lines)
+      (or_later (file_ends_flaw file) (nodes_flaw file))) first_here
+      (none_later (program_flaw (limits version) (first_line file) file.lines)
+      (or_later (file_ends_flaw file) (nodes_flaw file)) second
+      (none_later (file_ends_flaw file) (nodes_flaw file) ends third_here))
 
 -- ---- a problem with nodes within its limits
 
@@ -85,12 +97,14 @@ module _ (p : Problem) (ns : List FileNode) where
       → grammar.file.fits (tree_of p.version p.defs.list p.program ns)
   problem_fits some w =
       let kept = problem_keeps p in
-      file_fits p.version p.defs.most p.limit p.defs.list p.program ns kept.definitions kept.program kept.commands w
+      file_fits p.version p.defs.most p.limit p.defs.list p.program ns kept.definitions kept.program kept.commands
+      kept.ends w
       kept.free some
 
   pub problem_flawless : length ns ≤ 20000 → Each (IsNodeWithin p.defs.most p.defs.list (length p.program)) ns
       → file_flaw (tree_of p.version p.defs.list p.program ns) ≡ None
   problem_flawless most w =
       let kept = problem_keeps p in
-      file_flawless p.version p.defs.most p.limit p.defs.list p.program ns kept.definitions kept.program kept.commands w
+      file_flawless p.version p.defs.most p.limit p.defs.list p.program ns kept.definitions kept.program kept.commands
+      kept.ends w
       kept.own kept.few most

@@ -31,13 +31,15 @@ use Rattle.heap_reader.specs.Flaws.{heap_limit}
 use Rattle.heap_reader.specs.LineFlaws.{lines_flaw}
 use Rattle.heap_reader.specs.Values.{place_of, pure_value, spatial_value, heap_value}
 use Rattle.heap_reader.specs.LineValues.{line_value, variable_value, program_value}
+use Rattle.heap_reader.specs.EndValues.{end_value, ended_value}
+use Rattle.heap_reader.proofs.EndFitting.{as_many_commands}
 use Rattle.heap_reader.proofs.NoFlaw.{neither, not_ill, each_of}
 use Rattle.problem_syntax.specs.Names.{Name}
 use Rattle.problem_syntax.specs.Numbering as numbers
 use Rattle.problem_syntax.specs.Numbering.{Antecedent}
 use Rattle.problem_syntax.specs.Numbered.{Spatial, Heap, Definition, Goal, Entailment, From, Problem}
 use Rattle.formula_reader.specs.declared.terms.Scope.{Scope}
-use Rattle.formula_reader.specs.declared.terms.Scope.TheVariants.{Goal as InGoal, Case as InCase}
+use Rattle.formula_reader.specs.declared.terms.Scope.TheVariants.{Goal as InGoal, End as InEnd, Case as InCase}
 use Rattle.formula_reader.specs.Spans.{term_span, variable_span, lines_span, parameters_span, definition_span}
 use Rattle.formula_reader.specs.Spans.{definitions_span}
 use Rattle.formula_reader.specs.Flaws.{headings, term_flaw, variable_flaw, head_flaw, cases_flaw, definition_flaw}
@@ -46,13 +48,13 @@ use Rattle.formula_reader.specs.Values.{term_value, definition_value, goal_value
 use Rattle.formula_reader.specs.Small.{IsSmallProblem}
 use Rattle.heap_reader.specs.Small.{is_short_heap}
 use Rattle.formula_reader.specs.Problems.{IsOfText, goal_heaps, goal_fault, has_line}
-use Rattle.formula_reader.proofs.Fitting.{problem_small}
+use Rattle.formula_reader.proofs.Fitting.{goal_place, problem_parts, problem_small}
 use Rattle.heap_reader.proofs.Fitting.{HasFewAtoms, heap_few, heaps_few}
-use Rattle.formula_reader.proofs.SpanLaws.{text_some}
+use Rattle.formula_reader.proofs.SpanLaws.{text_ends_some, text_some}
 use Rattle.std.proofs.lemmas.Option.{same_Some}
 
 pub small_of : (p : Problem) → IsOfText p → problem_flaw p ≡ None → IsSmallProblem p
-small_of p text right = problem_small p (text_some p text) right
+small_of p text right = problem_small p (text_ends_some p text) (text_some p text) right
 
 -- ---- predicates are known
 
@@ -167,6 +169,14 @@ module _ (most : Limits) (ds : List Definition) where
       (heap_flaw (term_flaw InGoal) term_span most (headings ds) (k + 4) h) e in
       (λ i. then_fault (heap_right most ds InGoal (k + 4) h a.1 i) None)
 
+-- the disjuncts of an end use what is defined
+pub end_right : (most : Limits) (ds : List Definition) (k : ℕ) (hs : List Heap)
+    → heaps_flaw (term_flaw InEnd) term_span most (headings ds) Disjuncts k hs ≡ None
+    → first_fault (case_fault (map (definition_value (headings ds)) ds)) (map (heap_value term_value (headings ds)) hs)
+    ≡ None
+unfolding values
+end_right most ds k hs e = heaps_right most ds InEnd Disjuncts k hs e
+
 -- ---- the line of the goal
 
 line_right : (most : Limits) (hs gs : List Heading) (count k : ℕ) (g : Goal) → goal_flaw most hs count k g ≡ None
@@ -260,21 +270,6 @@ module _ (us : List Name) where
 -- ---- problems
 
 module _ (p : Problem) (text : IsOfText p) (right : problem_flaw p ≡ None) where
-  parts : (definitions_flaw (limits p.version) (headings p.definitions) 4 p.definitions ≡ None)
-      × (goal_flaw (limits p.version) (headings p.definitions) (length p.lines)
-      (4 + definitions_span p.definitions + lines_span p.lines) p.goal ≡ None)
-  parts =
-      let most = limits p.version in
-      let hs = headings p.definitions in
-      let at = 4 + definitions_span p.definitions in
-      let goal_at = at + lines_span p.lines in
-      let a = neither (definitions_flaw most hs 4 p.definitions)
-      (or_later (lines_flaw variable_flaw variable_span most at p.lines)
-      (goal_flaw most hs (length p.lines) goal_at p.goal)) right in
-      let b = neither (lines_flaw variable_flaw variable_span most at p.lines)
-      (goal_flaw most hs (length p.lines) goal_at p.goal) a.1 in
-      (a.0, b.1)
-
   pub is_closed : closed_fault (map (definition_value (headings p.definitions)) p.definitions) ≡ None
   is_closed =
       let ds = p.definitions in
@@ -282,26 +277,27 @@ module _ (p : Problem) (text : IsOfText p) (right : problem_flaw p ≡ None) whe
       none_first (definition_fault vs) (definition_value (headings ds)) ds
       (each_of (definition_flaw (limits p.version) (headings ds)) definition_span
       (λ d. definition_fault vs (definition_value (headings ds) d) ≡ None)
-      (definition_right (limits p.version) ds) 0 4 ds parts.0)
+      (definition_right (limits p.version) ds) 0 4 ds (problem_parts p right).0)
 
   pub is_known : goal_fault (map (definition_value (headings p.definitions)) p.definitions)
       (goal_value (headings p.definitions) p.goal) ≡ None
   is_known = goal_right (limits p.version) p.definitions (length p.lines)
-      (4 + definitions_span p.definitions + lines_span p.lines) p.goal parts.1
+      (goal_place p) p.goal (problem_parts p right).3
 
-  pub has_its_line : has_line (length (program_value p.lines)) (goal_value (headings p.definitions) p.goal) ≡ true
+  pub has_its_line : has_line (length (ended_value term_value (headings p.definitions) p.lines p.ends))
+      (goal_value (headings p.definitions) p.goal) ≡ true
   has_its_line =
       let lines = map (line_value variable_value) p.lines in
-      let same : length (program_value p.lines) ≡ length p.lines = length-map lines _
-      ∙ length-map p.lines (line_value variable_value) in
+      let same = as_many_commands 0 (program_value p.lines) (map (end_value term_value (headings p.definitions)) p.ends)
+      ∙ length-map lines _ ∙ length-map p.lines (line_value variable_value) in
       subst (λ (n : ℕ). has_line n (goal_value (headings p.definitions) p.goal) ≡ true) (sym same)
       (line_right (limits p.version) (headings p.definitions) (headings p.definitions) (length p.lines)
-      (4 + definitions_span p.definitions + lines_span p.lines) p.goal parts.1)
+      (goal_place p) p.goal (problem_parts p right).3)
 
   pub is_short : list_all (is_short_heap (limits p.version))
       (goal_heaps (goal_value (headings p.definitions) p.goal)) ≡ true
   is_short = goal_short (limits p.version) (headings p.definitions) (length p.lines)
-      (4 + definitions_span p.definitions + lines_span p.lines) p.goal parts.1
+      (goal_place p) p.goal (problem_parts p right).3
 
   pub has_universal_antecedent : is_universal_heap (antecedent (goal_value (headings p.definitions) p.goal)) ≡ true
   has_universal_antecedent =

@@ -23,6 +23,7 @@ pub mod Reasons
 pub mod NodesFit
 pub mod NodesFlawless
 pub mod ProgramLines
+pub mod ProgramEnds
 pub mod DefinitionTrees
 pub mod FileTrees
 pub mod Raised

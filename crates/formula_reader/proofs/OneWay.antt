@@ -24,9 +24,9 @@ use Rattle.rule_table.specs.Answer.{heaps_of, is_short, has_numbers}
 use Rattle.cyc_grammar.specs.Classes.{is_free_name}
 use Rattle.heap_syntax.specs.Words.{reserved}
 use Rattle.heap_syntax.specs.declared.version.Version.{Version}
-use Rattle.heap_syntax.specs.LineGrammar.{has_free_branches}
+use Rattle.heap_syntax.specs.LineGrammar.{has_free_branches, has_ends}
 use Rattle.rule_book.specs.Limits.{HasFields, IsHeapWithin, IsFormWithin, IsJudgementWithin, IsCaseWithin}
-use Rattle.rule_book.specs.Limits.{IsDefinitionWithin}
+use Rattle.rule_book.specs.Limits.{IsDefinitionWithin, IsCommandWithin}
 use Rattle.formula_reader.specs.Within.{IsCommandOf, IsProblemWithin}
 use Rattle.heap_formula.proofs.AllMembers.{each_prop}
 
@@ -67,6 +67,7 @@ command_prop (commands.IfNeq t u j) = ×_prop (universal_prop t) (universal_prop
 command_prop (commands.IfAny j) = Unit-prop
 command_prop (commands.Goto j) = Unit-prop
 command_prop commands.Stop = Unit-prop
+command_prop (commands.Ends bs) = Unit-prop
 
 of_version_prop : (version : Version) (limit : Limits) (c : Command) → IsProp (IsCommandOf version limit c)
 of_version_prop version limit (commands.Assign x t) = Unit-prop
@@ -79,6 +80,7 @@ of_version_prop version limit (commands.IfNeq t u j) = Unit-prop
 of_version_prop version limit (commands.IfAny j) = true_prop (has_free_branches version)
 of_version_prop version limit (commands.Goto j) = Unit-prop
 of_version_prop version limit commands.Stop = Unit-prop
+of_version_prop version limit (commands.Ends bs) = true_prop (has_ends version)
 
 stands_prop : (n i : ℕ) (c : Command) → IsProp (MayStandAt n i c)
 stands_prop n i (commands.Assign x t) = le_prop
@@ -91,6 +93,7 @@ stands_prop n i (commands.IfNeq t u j) = ×_prop le_prop (×_prop le_prop le_pro
 stands_prop n i (commands.IfAny j) = ×_prop le_prop (×_prop le_prop le_prop)
 stands_prop n i (commands.Goto j) = ×_prop le_prop le_prop
 stands_prop n i commands.Stop = Unit-prop
+stands_prop n i (commands.Ends bs) = Unit-prop
 
 program_prop : (lines : List Command) → IsProp (IsProgram lines)
 program_prop lines p q = λ i. record {
@@ -137,6 +140,19 @@ module _ (limit : Limits) (ds : List Definition) where
     cases = each_prop (IsCaseWithin limit ds d.arity) (case_prop d.arity) d.cases p.cases q.cases i;
   }
 
+  ends_prop : (c : Command) → IsProp (IsCommandWithin limit ds c)
+  ends_prop (commands.Ends bs) = ×_prop (each_prop (IsHeapWithin limit ds) heap_prop bs) (×_prop le_prop le_prop)
+  ends_prop (commands.Assign x t) = Unit-prop
+  ends_prop (commands.Load x t k) = Unit-prop
+  ends_prop (commands.Store t k u) = Unit-prop
+  ends_prop (commands.New x k) = Unit-prop
+  ends_prop (commands.Free t) = Unit-prop
+  ends_prop (commands.IfEq t u j) = Unit-prop
+  ends_prop (commands.IfNeq t u j) = Unit-prop
+  ends_prop (commands.IfAny j) = Unit-prop
+  ends_prop (commands.Goto j) = Unit-prop
+  ends_prop commands.Stop = Unit-prop
+
 pub within_prop : (version : Version) (limit : Limits) (ds : List Definition) (lines : List Command) (goal : Judgement)
     → IsProp (IsProblemWithin version limit ds lines goal)
 within_prop version limit ds lines goal p q = λ i. record {
@@ -144,6 +160,7 @@ within_prop version limit ds lines goal p q = λ i. record {
   definitions = each_prop (IsDefinitionWithin limit ds) (definition_prop limit ds) ds p.definitions q.definitions i;
   program = program_prop lines p.program q.program i;
   commands = each_prop (IsCommandOf version limit) (of_version_prop version limit) lines p.commands q.commands i;
+  ends = each_prop (IsCommandWithin limit ds) (ends_prop limit ds) lines p.ends q.ends i;
   goal = judgement_prop limit ds (length lines) goal p.goal q.goal i;
   free = λ n d at. true_prop (is_free_name reserved d.name) (p.free n d at) (q.free n d at) i;
   own = λ m n d e at_m at_n same. Coded-set coded_ℕ m n (p.own m n d e at_m at_n same) (q.own m n d e at_m at_n same) i;

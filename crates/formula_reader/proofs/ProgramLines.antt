@@ -141,6 +141,7 @@ module _ (limit : Limits) (count : ℕ) (most : count ≤ 4096) where
       (tt, free_fits (syntax.has_free_branches version) j known (target_fits j l.stands.1))
   command_fits version i (commands.Goto j) l known = (tt, target_fits j l.stands)
   command_fits version i commands.Stop l known = (tt, tt)
+  command_fits version i (commands.Ends bs) l known = (tt, tt)
 
   lines_fit : (version : Version) (n : ℕ) (cs : List Command) → n + length cs ≤ count → AreLines count n cs
       → Each (IsCommandOf version limit) cs → fits_many (syntax.line version variable) (lines_behind n cs)
@@ -240,6 +241,7 @@ module _ (limit : Limits) (count : ℕ) (most : count ≤ 4096) where
   command_good version i (commands.IfAny j) l known k = jump_good j l.stands.1 (k + 3)
   command_good version i (commands.Goto j) l known k = jump_good j l.stands (k + 1)
   command_good version i commands.Stop l known k = refl
+  command_good version i (commands.Ends bs) l known k = refl
 
   -- after the last line none follows
   before : (n : ℕ) → n + 1 < count → (b : Bool) → (nat_eq (suc n) count && b) ≡ false
@@ -257,6 +259,7 @@ module _ (limit : Limits) (count : ℕ) (most : count ≤ 4096) where
   stays n (commands.IfAny j) s = before n s.0 _
   stays n (commands.Goto j) s = and_right (nat_eq (suc n) count) false refl
   stays n commands.Stop s = and_right (nat_eq (suc n) count) false refl
+  stays n (commands.Ends bs) s = and_right (nat_eq (suc n) count) false refl
 
   line_good : (version : Version) (n : ℕ) (c : Command) → n < count → IsLineAt count (n + 1) c
       → IsCommandOf version limit c → (k : ℕ)
@@ -299,22 +302,26 @@ program_flawless version limit cs program known k =
 
 -- ---- no existential variable stands in them
 
-command_universal : (c : Command) → IsUniversalCommand c → is_universal_command c ≡ true
-command_universal (commands.Assign x t) u = universal_term_passes t u
-command_universal (commands.Load x t k) u = universal_term_passes t u
-command_universal (commands.Store t k v) u = and_from (is_universal t) (is_universal v) (universal_term_passes t u.0)
-    (universal_term_passes v u.1)
-command_universal (commands.New x k) u = refl
-command_universal (commands.Free t) u = universal_term_passes t u
-command_universal (commands.IfEq t v j) u = and_from (is_universal t) (is_universal v) (universal_term_passes t u.0)
-    (universal_term_passes v u.1)
-command_universal (commands.IfNeq t v j) u = and_from (is_universal t) (is_universal v) (universal_term_passes t u.0)
-    (universal_term_passes v u.1)
-command_universal (commands.IfAny j) u = refl
-command_universal (commands.Goto j) u = refl
-command_universal commands.Stop u = refl
+command_universal : (version : Version) (limit : Limits) (c : Command) → IsUniversalCommand c
+    → IsCommandOf version limit c → is_universal_command c ≡ true
+command_universal version limit (commands.Assign x t) u known = universal_term_passes t u
+command_universal version limit (commands.Load x t k) u known = universal_term_passes t u
+command_universal version limit (commands.Store t k v) u known =
+    and_from (is_universal t) (is_universal v) (universal_term_passes t u.0) (universal_term_passes v u.1)
+command_universal version limit (commands.New x k) u known = refl
+command_universal version limit (commands.Free t) u known = universal_term_passes t u
+command_universal version limit (commands.IfEq t v j) u known =
+    and_from (is_universal t) (is_universal v) (universal_term_passes t u.0) (universal_term_passes v u.1)
+command_universal version limit (commands.IfNeq t v j) u known =
+    and_from (is_universal t) (is_universal v) (universal_term_passes t u.0) (universal_term_passes v u.1)
+command_universal version limit (commands.IfAny j) u known = refl
+command_universal version limit (commands.Goto j) u known = refl
+command_universal version limit commands.Stop u known = refl
+command_universal version limit (commands.Ends bs) u known = refl
 
-pub commands_universal : (cs : List Command) → Each IsUniversalCommand cs → are_universal_commands cs ≡ true
-commands_universal [] e = refl
-commands_universal (c ∷ cs) e = and_from (is_universal_command c) (are_universal_commands cs) (command_universal c e.0)
-    (commands_universal cs e.1)
+pub commands_universal : (version : Version) (limit : Limits) (cs : List Command) → Each IsUniversalCommand cs
+    → Each (IsCommandOf version limit) cs → are_universal_commands cs ≡ true
+commands_universal version limit [] e known = refl
+commands_universal version limit (c ∷ cs) e known =
+    and_from (is_universal_command c) (are_universal_commands cs) (command_universal version limit c e.0 known.0)
+    (commands_universal version limit cs e.1 known.1)

@@ -1,5 +1,5 @@
 -- What is within some limits is within wider ones.
-use Rattle.std.proofs.Common.{ℕ, ◌≤◌, List, length, refl, arith}
+use Rattle.std.proofs.Common.{◌≡◌, ℕ, ◌≤◌, true, List, length, arith}
 use Rattle.std.specs.Prelude.{nat_le}
 use Rattle.std.proofs.lemmas.Bool.{and_from, le-leb}
 use Rattle.cyc_basics.specs.declared.limits.Limits.{Limits}
@@ -13,9 +13,12 @@ use Rattle.heap_formula.specs.Words.{Each}
 use Rattle.heap_formula.proofs.AllMembers.{each_imply}
 use Rattle.rule_table.specs.Answer.{heaps_of}
 use Rattle.rule_book.specs.Limits.{IsHeapWithin, IsJudgementWithin, IsCaseWithin, IsDefinitionWithin}
+use Rattle.rule_book.specs.Limits.{IsCommandWithin, AreEndsWithin}
 use Rattle.rule_book.proofs.Heaps.{small}
 use Rattle.heap_syntax.specs.declared.version.Version.{Version}
-use Rattle.heap_syntax.specs.declared.version.Version.TheVariants.{Two}
+use Rattle.heap_syntax.specs.declared.version.Version.TheVariants.{One, Two, Three}
+use Rattle.heap_syntax.specs.LineGrammar.{has_free_branches, has_ends}
+use Rattle.proof_file.specs.Upgrades.{upgraded}
 use Rattle.formula_reader.specs.Within.{IsCommandOf}
 
 module _ (least most : Limits) (wider : AreWithin least most) where
@@ -67,8 +70,19 @@ module _ (least most : Limits) (wider : AreWithin least most) where
         → Each (IsDefinitionWithin most ds) xs
     definitions_raised xs = each_imply (IsDefinitionWithin least ds) (IsDefinitionWithin most ds) definition_raised xs
 
-  -- version 2 has the commands of each version before it
-  command_raised : (version : Version) (c : Command) → IsCommandOf version least c → IsCommandOf Two most c
+  free_raised : (version : Version) → has_free_branches version ≡ true → has_free_branches (upgraded version) ≡ true
+  free_raised One e = cc
+  free_raised Two e = e
+  free_raised Three e = e
+
+  ends_raised : (version : Version) → has_ends version ≡ true → has_ends (upgraded version) ≡ true
+  ends_raised One e = cc
+  ends_raised Two e = e
+  ends_raised Three e = e
+
+  -- the upgraded version has the commands of the version
+  command_raised : (version : Version) (c : Command) → IsCommandOf version least c
+      → IsCommandOf (upgraded version) most c
   command_raised version (commands.Assign x t) w = tt
   command_raised version (commands.Load x t k) w = let more = wider.arguments in omega arith
   command_raised version (commands.Store t k u) w = let more = wider.arguments in omega arith
@@ -76,10 +90,34 @@ module _ (least most : Limits) (wider : AreWithin least most) where
   command_raised version (commands.Free t) w = tt
   command_raised version (commands.IfEq t u j) w = tt
   command_raised version (commands.IfNeq t u j) w = tt
-  command_raised version (commands.IfAny j) w = refl
+  command_raised version (commands.IfAny j) w = free_raised version w
   command_raised version (commands.Goto j) w = tt
   command_raised version commands.Stop w = tt
+  command_raised version (commands.Ends bs) w = ends_raised version w
 
   pub commands_raised : (version : Version) (cs : List Command) → Each (IsCommandOf version least) cs
-      → Each (IsCommandOf Two most) cs
-  commands_raised version cs = each_imply (IsCommandOf version least) (IsCommandOf Two most) (command_raised version) cs
+      → Each (IsCommandOf (upgraded version) most) cs
+  commands_raised version cs = each_imply (IsCommandOf version least) (IsCommandOf (upgraded version) most)
+      (command_raised version) cs
+
+  -- the ends of a program
+  pub ends_within_raised : (ds : List Definition) (cs : List Command) → AreEndsWithin least ds cs
+      → AreEndsWithin most ds cs
+  ends_within_raised ds cs = each_imply (IsCommandWithin least ds) (IsCommandWithin most ds) (one ds) cs
+    where
+      one : (ds : List Definition) (c : Command) → IsCommandWithin least ds c → IsCommandWithin most ds c
+      one ds (commands.Ends bs) w = (
+        each_imply (IsHeapWithin least ds) (IsHeapWithin most ds) (heap_raised ds) bs w.0,
+        w.1,
+        w.2,
+      )
+      one ds (commands.Assign x t) w = tt
+      one ds (commands.Load x t k) w = tt
+      one ds (commands.Store t k u) w = tt
+      one ds (commands.New x k) w = tt
+      one ds (commands.Free t) w = tt
+      one ds (commands.IfEq t u j) w = tt
+      one ds (commands.IfNeq t u j) w = tt
+      one ds (commands.IfAny j) w = tt
+      one ds (commands.Goto j) w = tt
+      one ds commands.Stop w = tt

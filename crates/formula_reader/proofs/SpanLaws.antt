@@ -22,12 +22,17 @@ use Rattle.heap_syntax.specs.LineTrees.{operand_of, change_of, command_of}
 use Rattle.problem_syntax.specs.Trees as named
 use Rattle.problem_syntax.specs.Trees.{Named, Nil, Plain, Primed}
 use Rattle.problem_syntax.specs.Grammar.{primes, term, terms, behind_address, behind_name, spatial, heap, parameters}
-use Rattle.problem_syntax.specs.Grammar.{cases, definition, disjuncts, state, entailment, goal, definitions, lines}
+use Rattle.problem_syntax.specs.Grammar.{cases, definition, disjuncts, state, entailment, goal, definitions, lines, ends}
 use Rattle.problem_syntax.specs.Grammar.{last_part, body, problem}
 use Rattle.heap_reader.specs.Spans.{total, total_or, pure_span, spatial_span, heap_span}
 use Rattle.heap_reader.specs.LineSpans.{operand_span, change_span, command_span, line_span}
 use Rattle.heap_reader.proofs.SpanLaws.{listed_words, alone, heap_words, heaps_words}
 use Rattle.heap_reader.proofs.LineSpanLaws.{lines_words}
+use Rattle.heap_formula.specs.Words.{Each}
+use Rattle.heap_reader.specs.EndSpans.{end_span}
+use Rattle.heap_reader.proofs.EndSpanLaws.{ends_words}
+use Rattle.heap_reader.proofs.EndFitting.{HasDisjunct as EndHasDisjunct}
+use Rattle.heap_reader.proofs.NumberedEnds.{ends_some}
 use Rattle.problem_syntax.specs.Names.{Name, has, firsts, place_of}
 use Rattle.problem_syntax.specs.Occurrences.{plain, primed_names}
 use Rattle.problem_syntax.specs.Numbering as numbers
@@ -35,7 +40,8 @@ use Rattle.problem_syntax.specs.Numbering.{Scope, Case, Antecedent, Disjunct, nu
 use Rattle.problem_syntax.specs.Numbered as trees
 use Rattle.formula_reader.specs.Small.{HasDisjunct}
 use Rattle.formula_reader.specs.Problems.{IsOfText}
-use Rattle.formula_reader.specs.Spans.{name_span, term_span, variable_span, heaps_span, lines_span, parameter_span}
+use Rattle.formula_reader.specs.Spans.{name_span, term_span, variable_span, heaps_span, lines_span, ends_span}
+use Rattle.formula_reader.specs.Spans.{parameter_span}
 use Rattle.formula_reader.specs.Spans.{parameters_span, definition_span, goal_span, problem_span}
 
 -- ---- lists
@@ -210,11 +216,33 @@ lines_counted version vs ls f =
     lines_words (one free_name) text_span (λ s g. refl) version ls f
     ∙ sym (total_map (line_span variable_span) (line_span text_span) (numbers.line vs) (line_same vs) ls)
 
--- ---- goals
+-- ---- disjuncts
 
 disjunct_same : (us : List Name) (h : named.Heap) → heap_span term_span (numbers.disjunct us h) ≡ heap_span named_span h
 unfolding numbers.disjunct
 disjunct_same us h = heap_same (Disjunct us (firsts (primed_names h))) h
+
+-- ---- ends
+
+end_same : (us : List Name) (e : named.End) → end_span term_span (numbers.end us e) ≡ end_span named_span e
+end_same us e = ap (λ k. 3 + k) (total_map (heap_span term_span) (heap_span named_span) (numbers.disjunct us)
+    (disjunct_same us) e.disjuncts)
+
+ends_counted : (version : Version) (us : List Name) (es : List named.End) → (ends version).fits es
+    → length ((ends version).words es) ≡ ends_span (map (numbers.end us) es)
+ends_counted version us es f =
+    ends_words (terms true) named_span (term_words true) (spatial true) (spatial_words true) version es f
+    ∙ sym (total_map (end_span term_span) (end_span named_span) (numbers.end us) (end_same us) es)
+
+mapped_some : (us : List Name) (es : List named.End) → Each EndHasDisjunct es
+    → Each EndHasDisjunct (map (numbers.end us) es)
+mapped_some us [] some = tt
+mapped_some us (e ∷ es) some = (
+  (let l = length-map e.disjuncts (numbers.disjunct us) in let one = some.0 in omega arith),
+  mapped_some us es some.1,
+)
+
+-- ---- goals
 
 goal_words : (us : List Name) (g : named.Goal) → goal.fits g → length (goal.words g) + 1 ≡ goal_span (numbers.goal us g)
 unfolding goal state entailment disjuncts
@@ -241,23 +269,35 @@ unfolding problem body definitions last_part
 problem_words p f =
     let ds = alone (is_one pred_word) definition (λ d. definition_span (numbers.definition d))
     definition_words p.definitions f.1.1.0 in
-    let ls = lines_counted p.version (numbers.program_variables p.lines) p.lines f.1.1.1.0 in
-    let g = goal_words (numbers.universals p) p.goal f.1.1.1.1 in
+    let ls = lines_counted p.version (numbers.program_variables p) p.lines f.1.1.1.0 in
+    let es = ends_counted p.version (numbers.program_variables p) p.ends f.1.1.1.1.0 in
+    let g = goal_words (numbers.universals p) p.goal f.1.1.1.1.1 in
     let same = total_map definition_span (λ d. definition_span (numbers.definition d)) numbers.definition (λ d. refl)
     p.definitions in
     let end = last_word.word tt ∷ [] in
     let k = length-append (goal.words p.goal) end in
     let l = length-append (goal.words p.goal ++ end) (semicolon.word tt ∷ []) in
-    let m = length-append ((lines p.version).words p.lines) (last_part.words p.goal) in
-    let n = length-append (definitions.words p.definitions) ((lines p.version).words p.lines ++ last_part.words p.goal)
-    in
+    let behind = (ends p.version).words p.ends ++ last_part.words p.goal in
+    let q = length-append ((ends p.version).words p.ends) (last_part.words p.goal) in
+    let m = length-append ((lines p.version).words p.lines) behind in
+    let n = length-append (definitions.words p.definitions) ((lines p.version).words p.lines ++ behind) in
     let o = length-append (body.words p) (the_end.word tt ∷ []) in
     omega arith
 
 -- a goal of a text has a disjunct
 pub problem_some : (p : named.Problem) → problem.fits p → HasDisjunct (numbered p).goal
 unfolding problem body last_part
-problem_some p f = some_disjunct (numbers.universals p) p.goal f.1.1.1.1
+problem_some p f = some_disjunct (numbers.universals p) p.goal f.1.1.1.1.1
+
+-- and so has each end
+pub problem_ends_some : (p : named.Problem) → problem.fits p → Each EndHasDisjunct (numbered p).ends
+unfolding problem body
+problem_ends_some p f =
+    mapped_some (numbers.program_variables p) p.ends (ends_some (terms true) (spatial true) p.version p.ends f.1.1.1.1.0)
+
+pub text_ends_some : (p : trees.Problem) → IsOfText p → Each EndHasDisjunct p.ends
+text_ends_some p text = subst (λ (q : trees.Problem). Each EndHasDisjunct q.ends) text.2
+    (problem_ends_some text.0 text.1)
 
 pub text_some : (p : trees.Problem) → IsOfText p → HasDisjunct p.goal
 text_some p text = subst (λ (q : trees.Problem). HasDisjunct q.goal) text.2 (problem_some text.0 text.1)

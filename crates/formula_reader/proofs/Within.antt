@@ -10,34 +10,51 @@ use Rattle.cyc_basics.specs.declared.limits.Limits.{Limits}
 use Rattle.cyc_basics.specs.Limits.{AreLimits}
 use Rattle.heap_formula.specs.declared.terms.Term.{Term}
 use Rattle.heap_formula.specs.declared.commands.Command.{Command}
+use Rattle.heap_formula.specs.declared.commands.Command.TheVariants.{Ends}
 use Rattle.heap_formula.specs.declared.judgements.Judgement.{Judgement}
 use Rattle.heap_formula.specs.Closedness.{InHeap}
 use Rattle.heap_formula.specs.Definitions.{Definition as DefinitionValue}
 use Rattle.heap_formula.specs.Fresh.{univ_bound, exist_bound}
 use Rattle.heap_formula.specs.Judgements.{antecedent}
 use Rattle.heap_formula.specs.Words.{Each}
-use Rattle.goto_lang.specs.Lines.{IsLineOf}
+use Rattle.goto_lang.specs.Lines.{IsLineOf, IsUniversalCommand, IsProgram}
 use Rattle.goto_lang.proofs.Faultless.{faultless_is_program}
 use Rattle.pred_defs.specs.declared.faults.DefFault.{DefFault}
 use Rattle.pred_defs.specs.Faults.{case_fault, definition_fault, first_fault, or_later as then_fault}
 use Rattle.rule_book.specs.Limits.{IsHeapWithin, IsJudgementWithin, IsCaseWithin, IsDefinitionWithin}
+use Rattle.rule_book.specs.Limits.{IsCommandWithin}
 use Rattle.rule_book.proofs.Heaps.{IsLow}
 use Rattle.cyc_lex.specs.declared.fault.What.TheVariants.{Cases, Disjuncts, Locals, Predicates, Variable}
+use Rattle.cyc_lex.specs.declared.fault.What.TheVariants.{ProgramVariables}
 use Rattle.cyc_lex.specs.declared.fault.IllFault.TheVariants.{Duplicate, NoLine, Parameter}
 use Rattle.cyc_grammar.specs.Syntax.{Syntax, Class}
 use Rattle.cyc_grammar.specs.Classes.{is_free_name}
 use Rattle.heap_syntax.specs.Grammar as shared
 use Rattle.heap_syntax.specs.Words.{reserved, bar, closing_brace, or_word, semicolon}
 use Rattle.heap_syntax.specs.Trees.{Heap as AnyHeap}
+use Rattle.heap_syntax.specs.EndGrammar as endings
+use Rattle.heap_syntax.specs.LineGrammar.{has_ends}
+use Rattle.heap_syntax.specs.declared.version.Version.{Version}
+use Rattle.heap_syntax.specs.declared.lines.tree.ChangeTree.TheVariants.{New, Assign, Load, Store}
+use Rattle.heap_syntax.specs.declared.lines.tree.CommandTree.{CommandTree}
+use Rattle.heap_syntax.specs.declared.lines.tree.CommandTree.TheVariants.{Stop, Goto, Free, IfAny, If, StoreAtNil}
+use Rattle.heap_syntax.specs.declared.lines.tree.CommandTree.TheVariants.{Change}
+use Rattle.heap_syntax.specs.declared.lines.tree.LineTree.{LineTree}
 use Rattle.problem_syntax.specs.Trees as named
-use Rattle.problem_syntax.specs.Grammar.{heap, cases, definition, definitions, disjuncts, state, entailment, goal}
+use Rattle.problem_syntax.specs.Grammar.{terms, spatial, heap, cases, definition, definitions, disjuncts, state, entailment}
+use Rattle.problem_syntax.specs.Grammar.{goal}
 use Rattle.problem_syntax.specs.Grammar.{last_part, body, problem}
 use Rattle.heap_reader.specs.Trees.{Heading}
 use Rattle.heap_reader.specs.Spans.{heap_span}
 use Rattle.heap_reader.specs.Flaws.{ill_if, over_if, or_later, arity_in, heap_flaw, counted_flaw, heaps_flaw}
 use Rattle.heap_reader.specs.LineFlaws.{lines_flaw}
 use Rattle.heap_reader.specs.Values.{heap_value}
-use Rattle.heap_reader.specs.LineValues.{line_value, variable_value, program_value}
+use Rattle.heap_reader.specs.LineValues.{command_value, line_value, variable_value, program_value}
+use Rattle.heap_reader.specs.EndFlaws.{stops_at, end_flaw, ends_flaw}
+use Rattle.heap_reader.specs.EndSmall.{IsSmallEnd}
+use Rattle.heap_reader.specs.EndSpans.{end_span}
+use Rattle.heap_reader.specs.EndValues.{LineEnd, end_value, ended_value, lines_with_ends}
+use Rattle.heap_reader.proofs.EndFitting.{end_heaps, ended_commands, ended_each, ended_universal}
 use Rattle.heap_reader.proofs.Programs.{lines_universal}
 use Rattle.heap_syntax.specs.Versions.{limits}
 use Rattle.heap_reader.specs.Small.{IsSmallHeap}
@@ -51,7 +68,7 @@ use Rattle.problem_syntax.specs.Numbered.{Heap, Definition, Problem}
 use Rattle.problem_syntax.specs.Numbering as numbers
 use Rattle.problem_syntax.specs.Numbering.{numbered}
 use Rattle.formula_reader.specs.declared.problem.Problem.{Problem as ProblemValue}
-use Rattle.formula_reader.specs.declared.terms.Scope.TheVariants.{Goal as InGoal, Case as InCase}
+use Rattle.formula_reader.specs.declared.terms.Scope.TheVariants.{Goal as InGoal, End as InEnd, Case as InCase}
 use Rattle.formula_reader.specs.Spans.{term_span, variable_span, lines_span, parameters_span, definition_span}
 use Rattle.formula_reader.specs.Spans.{definitions_span}
 use Rattle.formula_reader.specs.Flaws.{headings, term_flaw, variable_flaw, parameters_flaw, head_flaw, cases_flaw}
@@ -61,14 +78,17 @@ use Rattle.formula_reader.specs.Small.{IsSmallDefinition, IsSmallGoal}
 use Rattle.formula_reader.specs.Values.{term_value, definition_value, goal_value}
 use Rattle.formula_reader.proofs.Universal.{universal_heap}
 use Rattle.formula_reader.specs.Problems.{IsOfText, goal_fault, has_line}
-use Rattle.formula_reader.proofs.Fitting.{term_small, parameters_few, definition_small}
+use Rattle.formula_reader.proofs.Fitting.{term_small, parameters_few, definition_small, lines_place}
+use Rattle.formula_reader.proofs.Fitting.{ends_place, goal_place, problem_parts}
 use Rattle.formula_reader.proofs.Keeping.{small_of, is_closed, is_known, has_universal_antecedent, has_its_line}
-use Rattle.formula_reader.proofs.HeapsWithin.{heap_keeps, in_heap_each, heap_bounded, heap_open, heap_within}
+use Rattle.formula_reader.proofs.Keeping.{end_right}
+use Rattle.formula_reader.proofs.HeapsWithin.{heap_within}
+use Rattle.heap_reader.proofs.HeapTerms.{heap_keeps, in_heap_each, heap_bounded, heap_open}
 use Rattle.formula_reader.proofs.OwnNames.{own_names}
 use Rattle.formula_reader.proofs.LinesWithin.{lines_known}
-use Rattle.formula_reader.specs.Within.{IsProblemWithin}
+use Rattle.formula_reader.specs.Within.{IsCommandOf, IsProblemWithin}
 use Rattle.formula_reader.proofs.OneWay.{within_prop}
-use Rattle.heap_formula.proofs.AllMembers.{each_at}
+use Rattle.heap_formula.proofs.AllMembers.{each_at, each_imply}
 use Rattle.heap_reader.proofs.Members.{many_fit, behind_fit}
 use Rattle.rule_table.specs.Tests.{is_universal_heap}
 
@@ -318,63 +338,164 @@ module _ (limit : Limits) (hs : List Heading) (ds : List DefinitionValue) where
         form = line_of n i line;
       }
 
+-- ---- ends, each as a succedent
+
+end_term : (k : ℕ) (t : NumberedTerm) → term_flaw InEnd k t ≡ None → IsLow (term_value t)
+end_term k Nil e = omega arith
+end_term k (Universal n primed) e =
+    let h = at_most 63 n (not_over (nat_lt 63 n) ProgramVariables k e) in omega arith
+end_term k (Existential n primed) e = let h = at_most 65534 n (not_over (nat_lt 65534 n) Variable k e) in omega arith
+
+module _ (limit : Limits) (definitions : List Definition) (us : List Name) where
+  abbrev hs_of : List Heading
+  hs_of = headings definitions
+
+  abbrev ds_of : List DefinitionValue
+  ds_of = map (definition_value (headings definitions)) definitions
+
+  end_within : (k : ℕ) (e : named.End) → (shared.heaps or_word semicolon (heap true)).fits e.disjuncts
+      → heaps_flaw (term_flaw InEnd) term_span limit hs_of Disjuncts k (numbers.end us e).disjuncts ≡ None
+      → IsSmallEnd term_value (numbers.end us e)
+      → IsCommandWithin limit ds_of (Ends (end_value term_value hs_of (numbers.end us e)).1)
+  end_within k e fits right small =
+      let trees = map (numbers.disjunct us) e.disjuncts in
+      let parts = heaps_parts or_word semicolon (heap true) e.disjuncts fits in
+      let low = each_flawless (counted_flaw (term_flaw InEnd) term_span limit hs_of Disjuncts) (heap_span term_span)
+      (λ c. InHeap IsLow (heap_value term_value hs_of c)) (λ m j c g.
+      heap_keeps (term_flaw InEnd) term_span term_value IsLow end_term limit hs_of j c
+      (neither (over_if (nat_le 16 m) Disjuncts j) (heap_flaw (term_flaw InEnd) term_span limit hs_of j c) g).1) 0 k
+      trees right in
+      let known = each_right (case_fault ds_of) (map (heap_value term_value hs_of) trees)
+      (end_right limit definitions k trees right) in
+      let some = small.some in
+      let few = small.few in
+      let m = length-map trees (heap_value term_value hs_of) in (
+        disjuncts_within limit hs_of ds_of us e.disjuncts parts.1 small.heaps
+            (heaps_few (term_flaw InEnd) term_span limit hs_of Disjuncts k trees right) low known,
+        omega arith,
+        omega arith,
+      )
+
+  all_within : (stops : ℕ → Bool) (before k : ℕ) (es : List named.End)
+      → Each (λ (e : named.End). (shared.heaps or_word semicolon (heap true)).fits e.disjuncts) es
+      → ends_flaw (term_flaw InEnd) term_span limit hs_of stops before k (map (numbers.end us) es) ≡ None
+      → Each (IsSmallEnd term_value) (map (numbers.end us) es)
+      → Each (λ (e : LineEnd). IsCommandWithin limit ds_of (Ends e.1))
+      (map (end_value term_value hs_of) (map (numbers.end us) es))
+  all_within stops before k [] fits right small = tt
+  all_within stops before k (e ∷ es) fits right small =
+      let tree = numbers.end us e in
+      let behind = k + end_span term_span tree in
+      let both = neither (end_flaw (term_flaw InEnd) term_span limit hs_of stops before k tree)
+      (ends_flaw (term_flaw InEnd) term_span limit hs_of stops tree.number behind (map (numbers.end us) es)) right in (
+        end_within (k + 3) e fits.0 (end_heaps (term_flaw InEnd) term_span limit hs_of stops before k tree both.0)
+            small.0,
+        all_within stops tree.number behind es fits.1 both.1 small.1,
+      )
+
+-- a line is within whatever limits, where it has no end
+line_within : (limit : Limits) (ds : List DefinitionValue) (c : CommandTree ℕ)
+    → IsCommandWithin limit ds (command_value variable_value c)
+line_within limit ds Stop = tt
+line_within limit ds (IfAny n) = tt
+line_within limit ds (Goto n) = tt
+line_within limit ds (Free t) = tt
+line_within limit ds (If t true u n) = tt
+line_within limit ds (If t false u n) = tt
+line_within limit ds (StoreAtNil n t) = tt
+line_within limit ds (Change v (New n)) = tt
+line_within limit ds (Change v (Assign t)) = tt
+line_within limit ds (Change v (Load t n)) = tt
+line_within limit ds (Change v (Store n t)) = tt
+
+lines_within : (limit : Limits) (ds : List DefinitionValue) (ls : List (LineTree ℕ))
+    → Each (IsCommandWithin limit ds) (program_value ls)
+lines_within limit ds [] = tt
+lines_within limit ds (l ∷ ls) = (line_within limit ds l.command, lines_within limit ds ls)
+
+-- the program that a tree says
+abbrev pub program_said : Problem → List Command
+program_said p = ended_value term_value (headings p.definitions) p.lines p.ends
+
+ends_of_version : (version : Version) (us : List Name) (hs : List Heading) (es : List named.End)
+    → Each (λ (e : named.End). (has_ends version ≡ true)
+    × (shared.heaps or_word semicolon (heap true)).fits e.disjuncts) es
+    → Each (λ (e : LineEnd). has_ends version ≡ true) (map (end_value term_value hs) (map (numbers.end us) es))
+ends_of_version version us hs [] has = tt
+ends_of_version version us hs (e ∷ es) has = (has.0.0, ends_of_version version us hs es has.1)
+
+-- what a text with ends says of its version, and of each of them
+ends_where : (b : Bool) (version : Version) (es : List named.End) → has_ends version ≡ b
+    → (endings.ends_where b (terms true) (spatial true)).fits es → Each (λ (e : named.End). (has_ends version ≡ true)
+    × (shared.heaps or_word semicolon (heap true)).fits e.disjuncts) es
+unfolding endings.end
+ends_where true version [] has f = tt
+ends_where true version (e ∷ es) has f = ((has, f.0.1.1), ends_where true version es has f.1)
+ends_where false version [] has f = tt
+ends_where false version (e ∷ es) has f = absurd f.0
+
 -- ---- problems
 
 -- what a tree with names says
 text_within : (names : named.Problem) → problem.fits names → problem_flaw (numbered names) ≡ None
     → IsProblemWithin names.version (limits names.version)
     (map (definition_value (headings (numbered names).definitions)) (numbered names).definitions)
-    (program_value (numbered names).lines) (goal_value (headings (numbered names).definitions) (numbered names).goal)
-unfolding problem body definitions last_part
+    (program_said (numbered names)) (goal_value (headings (numbered names).definitions) (numbered names).goal)
+unfolding problem body definitions last_part endings.ends
 text_within names fits right =
     let tree = numbered names in
     let limit = limits names.version in
     let text : IsOfText tree = (names, fits, refl) in
     let hs = headings tree.definitions in
     let ds = map (definition_value hs) tree.definitions in
-    let at = 4 + definitions_span tree.definitions in
-    let goal_at = at + lines_span tree.lines in
-    let a = neither (definitions_flaw limit hs 4 tree.definitions)
-    (or_later (lines_flaw variable_flaw variable_span limit at tree.lines)
-    (goal_flaw limit hs (length tree.lines) goal_at tree.goal)) right in
-    let b = neither (lines_flaw variable_flaw variable_span limit at tree.lines)
-    (goal_flaw limit hs (length tree.lines) goal_at tree.goal) a.1 in
+    let variables = numbers.program_variables names in
+    let lines = map (line_value variable_value) tree.lines in
+    let commands = program_value tree.lines in
+    let said = map (end_value term_value hs) tree.ends in
+    let parts = problem_parts tree right in
     let small = small_of tree text right in
     let each_fits = many_fit definition names.definitions fits.1.1.0 in
     let each_good = each_flawless (definition_flaw limit hs) definition_span (IsGood limit (most_fits names.version) hs)
-    (good limit (most_fits names.version) hs) 0 4 tree.definitions a.0 in
+    (good limit (most_fits names.version) hs) 0 4 tree.definitions parts.0 in
+    let each_end = ends_where (has_ends names.version) names.version names.ends refl fits.1.1.1.1.0 in
     let few = small.few in
     let m = length-map tree.definitions (definition_value hs) in
     record {
       few = omega arith;
       definitions = definitions_within limit (most_fits names.version) hs ds names.definitions each_fits each_good
           (each_right (definition_fault ds) ds (is_closed tree text right));
-      program = faultless_is_program (map (line_value variable_value) tree.lines) small.program
-          (lines_universal variable_value tree.lines);
-      commands = lines_known names.version limit
-          (numbers.program_variables names.lines) names.lines fits.1.1.1.0 at b.0;
+      program = subst IsProgram (ended_commands 0 lines said)
+          (faultless_is_program (lines_with_ends 0 lines said) small.ended
+          (subst (Each IsUniversalCommand) (sym (ended_commands 0 lines said))
+          (ended_universal 0 commands said (lines_universal variable_value tree.lines))));
+      commands = ended_each (IsCommandOf names.version limit) 0 commands said
+          (lines_known names.version limit variables names.lines fits.1.1.1.0 (lines_place tree) parts.1)
+          (ends_of_version names.version variables hs names.ends each_end);
+      ends = ended_each (IsCommandWithin limit ds) 0 commands said (lines_within limit ds tree.lines)
+          (all_within limit tree.definitions variables (stops_at tree.lines) 0 (ends_place tree) names.ends
+          (each_imply _ _ (λ e both. both.1) names.ends each_end) parts.2 small.ends);
       goal = goal_within limit hs ds (numbers.universals names) (length tree.lines)
-          goal_at names.goal fits.1.1.1.1 b.1 small.goal (is_known tree text right)
-          (has_universal_antecedent tree text right) (length (program_value tree.lines)) (has_its_line tree text right);
+          (goal_place tree) names.goal fits.1.1.1.1.1 parts.3 small.goal (is_known tree text right)
+          (has_universal_antecedent tree text right) (length (program_said tree)) (has_its_line tree text right);
       free = λ q d at_q. each_at (λ (v : DefinitionValue). is_free_name reserved v.name ≡ true) ds q d at_q
           (definitions_free limit (most_fits names.version) hs names.definitions each_fits);
-      own = own_names limit tree.definitions hs a.0;
+      own = own_names limit tree.definitions hs parts.0;
     }
 
 -- what a numbered tree of a text says
 pub said_within : (tree : Problem) → IsOfText tree → problem_flaw tree ≡ None
     → (most : Limits) (ds : List DefinitionValue) (lines : List Command) (judgement : Judgement)
     → most ≡ limits tree.version → ds ≡ map (definition_value (headings tree.definitions)) tree.definitions
-    → lines ≡ program_value tree.lines → judgement ≡ goal_value (headings tree.definitions) tree.goal
+    → lines ≡ program_said tree → judgement ≡ goal_value (headings tree.definitions) tree.goal
     → IsProblemWithin tree.version most ds lines judgement
 said_within tree text right most ds lines judgement limit definitions program goal =
     let Said = λ (t : Problem). IsProblemWithin t.version (limits t.version)
-    (map (definition_value (headings t.definitions)) t.definitions) (program_value t.lines)
+    (map (definition_value (headings t.definitions)) t.definitions) (program_said t)
     (goal_value (headings t.definitions) t.goal) in
     let said = subst (λ (t : Problem). problem_flaw t ≡ None → Said t) text.2 (text_within text.0 text.1) right in
     let read = map (definition_value (headings tree.definitions)) tree.definitions in
     let with_goal = subst (λ (x : Judgement). IsProblemWithin tree.version (limits tree.version) read
-    (program_value tree.lines) x) (sym goal) said in
+    (program_said tree) x) (sym goal) said in
     let with_lines = subst (λ (x : List Command). IsProblemWithin tree.version (limits tree.version)
     read x judgement) (sym program) with_goal in
     let with_definitions = subst (λ (x : List DefinitionValue). IsProblemWithin tree.version (limits tree.version)

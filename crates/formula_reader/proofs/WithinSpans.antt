@@ -15,15 +15,19 @@ use Rattle.heap_reader.specs.LineFlaws.{lines_flaw}
 use Rattle.heap_reader.proofs.WithinSpans.{Before, first_before, over_before, ill_before, later, listed_before}
 use Rattle.heap_reader.proofs.WithinSpans.{listed_or_before, heap_before, heaps_before}
 use Rattle.heap_reader.proofs.LineWithinSpans.{lines_before}
+use Rattle.heap_reader.proofs.EndWithinSpans.{ends_before}
+use Rattle.heap_reader.specs.EndFlaws.{stops_at}
+use Rattle.formula_reader.proofs.Fitting.{lines_place, ends_place, goal_place}
 use Rattle.problem_syntax.specs.declared.numbering.tree.NumberedTerm.{NumberedTerm}
 use Rattle.problem_syntax.specs.declared.numbering.tree.NumberedTerm.TheVariants.{Nil, Universal, Existential}
 use Rattle.problem_syntax.specs.Numbered.{Definition, Goal, Entailment, From, Problem}
 use Rattle.formula_reader.specs.declared.terms.Scope.{Scope}
-use Rattle.formula_reader.specs.declared.terms.Scope.TheVariants.{Goal as InGoal, Case as InCase}
+use Rattle.formula_reader.specs.declared.terms.Scope.TheVariants.{Goal as InGoal, End as InEnd, Case as InCase}
 use Rattle.formula_reader.specs.Spans.{name_span, term_span, variable_span, heaps_span, lines_span, parameter_span}
 use Rattle.formula_reader.specs.Spans.{parameters_span, definition_span, definitions_span, goal_span, problem_span}
 use Rattle.formula_reader.specs.Flaws.{headings, term_flaw, variable_flaw, parameter_flaw, parameters_flaw, head_flaw}
-use Rattle.formula_reader.specs.Flaws.{cases_flaw, definition_flaw, definitions_flaw, goal_flaw, problem_flaw}
+use Rattle.formula_reader.specs.Flaws.{cases_flaw, definition_flaw, definitions_flaw, program_ends_flaw}
+use Rattle.formula_reader.specs.Flaws.{goal_flaw, problem_flaw}
 
 -- ---- terms
 
@@ -41,6 +45,10 @@ term_before scope k Nil = tt
 term_before InGoal k (Universal n primed) = let s = two_tokens primed in
     over_before (nat_lt 65534 n) Variable k (k + name_span primed) (omega arith)
 term_before InGoal k (Existential n primed) = let s = two_tokens primed in
+    over_before (nat_lt 65534 n) Variable k (k + name_span primed) (omega arith)
+term_before InEnd k (Universal n primed) = let s = two_tokens primed in
+    over_before (nat_lt 63 n) ProgramVariables k (k + name_span primed) (omega arith)
+term_before InEnd k (Existential n primed) = let s = two_tokens primed in
     over_before (nat_lt 65534 n) Variable k (k + name_span primed) (omega arith)
 term_before (InCase arity locals) k (Universal n primed) = let s = two_tokens primed in
     ill_before (nat_le arity n) Parameter k (k + name_span primed) (omega arith)
@@ -108,13 +116,15 @@ problem_before p =
     let most = limits p.version in
     let hs = headings p.definitions in
     let m = problem_span p in
-    let at = 4 + definitions_span p.definitions in
-    let goal_at = at + lines_span p.lines in
     let first = definitions_flaw most hs 4 p.definitions in
-    let second = lines_flaw variable_flaw variable_span most at p.lines in
-    let third = goal_flaw most hs (length p.lines) goal_at p.goal in
-    first_before first (or_later second third) m (later first at m (omega arith)
+    let second = lines_flaw variable_flaw variable_span most (lines_place p) p.lines in
+    let third = program_ends_flaw most hs p.lines (ends_place p) p.ends in
+    let last = goal_flaw most hs (length p.lines) (goal_place p) p.goal in
+    first_before first (or_later second (or_later third last)) m (later first (lines_place p) m (omega arith)
     (listed_before (definition_flaw most hs) definition_span (definition_before most hs) 0 4 p.definitions))
-    (first_before second third m (later second goal_at m (omega arith)
-    (lines_before variable_flaw variable_span variable_before most at p.lines))
-    (goal_before most hs (length p.lines) goal_at p.goal))
+    (first_before second (or_later third last) m (later second (ends_place p) m (omega arith)
+    (lines_before variable_flaw variable_span variable_before most (lines_place p) p.lines))
+    (first_before third last m (later third (goal_place p) m (omega arith)
+    (ends_before (term_flaw InEnd) term_span some_span (term_before InEnd) most hs (stops_at p.lines) 0 (ends_place p)
+    p.ends))
+    (goal_before most hs (length p.lines) (goal_place p) p.goal)))

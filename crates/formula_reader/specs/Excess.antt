@@ -1,5 +1,6 @@
 -- The first limit of the formats that values pass, in the order of a text.
-use Rattle.std.specs.Prelude.{ℕ, ◌+◌, Bool, true, not, ◌&&◌, ◌||◌, nat_eq, nat_lt, nat_le, if◌then◌else◌, List, [], ◌∷◌}
+use Rattle.std.specs.Prelude.{ℕ, ◌+◌, Bool, true, false, not, ◌&&◌, ◌||◌, nat_eq, nat_lt, nat_le, if◌then◌else◌, List}
+use Rattle.std.specs.Prelude.{[], ◌∷◌}
 use Rattle.std.specs.Prelude.{length, take, Option, Some, None, is_none}
 use Rattle.std.specs.List.{list_all}
 use Rattle.std.specs.Option.{option_map, option_or}
@@ -8,7 +9,7 @@ use Rattle.cyc_basics.specs.declared.limits.TheConstants.{MOST_ARGUMENTS}
 use Rattle.heap_formula.specs.declared.atoms.Spatial.{Spatial}
 use Rattle.heap_formula.specs.declared.atoms.Spatial.TheVariants.{Cell, Pred}
 use Rattle.heap_formula.specs.declared.commands.Command.{Command}
-use Rattle.heap_formula.specs.declared.commands.Command.TheVariants.{IfAny, Load, New, Store}
+use Rattle.heap_formula.specs.declared.commands.Command.TheVariants.{IfAny, Load, New, Store, Ends}
 use Rattle.heap_formula.specs.declared.judgements.Judgement.{Judgement}
 use Rattle.heap_formula.specs.declared.judgements.Judgement.TheVariants.{Entail, Term as Runs}
 use Rattle.heap_formula.specs.Definitions.{Definition}
@@ -20,7 +21,7 @@ use Rattle.rule_table.specs.Tests.{is_universal_heap}
 use Rattle.cyc_grammar.specs.Classes.{is_free_name}
 use Rattle.heap_syntax.specs.Words.{reserved}
 use Rattle.heap_syntax.specs.declared.version.Version.{Version}
-use Rattle.heap_syntax.specs.LineGrammar.{has_free_branches}
+use Rattle.heap_syntax.specs.LineGrammar.{has_free_branches, has_ends}
 use Rattle.formula_reader.specs.declared.limits.excess.HeapExcess.{HeapExcess}
 use Rattle.formula_reader.specs.declared.limits.excess.HeapExcess.TheVariants.{Atoms, Variable, Predicate, Fields}
 use Rattle.formula_reader.specs.declared.limits.excess.CaseExcess.{CaseExcess}
@@ -33,7 +34,8 @@ use Rattle.formula_reader.specs.declared.limits.excess.JudgementExcess.TheVarian
 use Rattle.formula_reader.specs.declared.limits.excess.JudgementExcess.TheVariants.{Existential}
 use Rattle.formula_reader.specs.declared.limits.excess.ProblemExcess.{ProblemExcess}
 use Rattle.formula_reader.specs.declared.limits.excess.ProblemExcess.TheVariants.{Definition as OfDefinition}
-use Rattle.formula_reader.specs.declared.limits.excess.ProblemExcess.TheVariants.{Command as OfCommand, Goal as OfGoal}
+use Rattle.formula_reader.specs.declared.limits.excess.ProblemExcess.TheVariants.{Command as OfCommand, End as OfEnd}
+use Rattle.formula_reader.specs.declared.limits.excess.ProblemExcess.TheVariants.{Goal as OfGoal}
 
 -- the first that is found at a member of a list, before which n members stand
 abbrev pub first_of : {X E : Type 0} → (ℕ → X → Option E) → ℕ → List X → Option E
@@ -93,6 +95,7 @@ is_command_of version most (IfAny j) = has_free_branches version
 is_command_of version most (Load x t k) = nat_le k most.arguments
 is_command_of version most (Store t k u) = nat_le k most.arguments
 is_command_of version most (New x k) = nat_le k most.arguments
+is_command_of version most (Ends bs) = has_ends version
 is_command_of version most c = true
 
 abbrev pub line_at : Version → Limits → ℕ → Command → Option ProblemExcess
@@ -100,6 +103,20 @@ line_at version most n c = if is_command_of version most c then None else Some (
 
 abbrev pub lines_excess : Version → Limits → List Command → Option ProblemExcess
 lines_excess version most cs = first_of (line_at version most) 0 cs
+
+-- ---- ends
+
+-- the disjunct of a line's end at place n
+abbrev pub end_disjunct_at : Limits → List Definition → ℕ → ℕ → SymbolicHeap → Option ProblemExcess
+end_disjunct_at most ds line n b = option_map (OfEnd line n) (heap_excess most ds b)
+
+-- the line before which n stand
+abbrev pub end_at : Limits → List Definition → ℕ → Command → Option ProblemExcess
+end_at most ds n (Ends bs) = first_of (end_disjunct_at most ds (n + 1)) 0 bs
+end_at most ds n c = None
+
+abbrev pub ends_excess : Limits → List Definition → List Command → Option ProblemExcess
+ends_excess most ds cs = first_of (end_at most ds) 0 cs
 
 -- ---- judgements
 
@@ -122,4 +139,4 @@ judgement_excess most ds count (Runs i a)
 abbrev pub problem_excess : Version → Limits → List Definition → List Command → Judgement → Option ProblemExcess
 problem_excess version most ds lines goal =
     option_or (definitions_excess most ds) (option_or (lines_excess version most lines)
-    (option_map OfGoal (judgement_excess most ds (length lines) goal)))
+    (option_or (ends_excess most ds lines) (option_map OfGoal (judgement_excess most ds (length lines) goal))))

@@ -12,12 +12,13 @@ use Rattle.heap_reader.specs.Trees.{Heading}
 use Rattle.heap_reader.specs.Spans.{heap_span}
 use Rattle.heap_reader.specs.Flaws.{Found, ill_if, over_if, or_later, listed_flaw, arity_in, heap_flaw, heaps_flaw}
 use Rattle.heap_reader.specs.LineFlaws.{lines_flaw}
+use Rattle.heap_reader.specs.EndFlaws.{stops_at, ends_flaw}
 use Rattle.problem_syntax.specs.declared.numbering.tree.NumberedTerm.{NumberedTerm}
 use Rattle.problem_syntax.specs.declared.numbering.tree.NumberedTerm.TheVariants.{Nil, Universal, Existential}
-use Rattle.problem_syntax.specs.Numbered.{Heap, Definition, Goal, Entailment, From, Problem}
+use Rattle.problem_syntax.specs.Numbered.{Heap, Line, End, Definition, Goal, Entailment, From, Problem}
 use Rattle.formula_reader.specs.declared.terms.Scope.{Scope}
-use Rattle.formula_reader.specs.declared.terms.Scope.TheVariants.{Goal as InGoal, Case as InCase}
-use Rattle.formula_reader.specs.Spans.{term_span, variable_span, lines_span, parameter_span, parameters_span}
+use Rattle.formula_reader.specs.declared.terms.Scope.TheVariants.{Goal as InGoal, End as InEnd, Case as InCase}
+use Rattle.formula_reader.specs.Spans.{term_span, variable_span, lines_span, ends_span, parameter_span, parameters_span}
 use Rattle.formula_reader.specs.Spans.{definition_span, definitions_span}
 
 -- what a use of the predicate is compared with
@@ -29,12 +30,15 @@ headings ds = map heading ds
 
 -- ---- terms; each part begins at token k, and n members stand before it
 
--- a case has at most so many locals; that a parameter is below the arity, and that a number of the goal has sixteen
--- bits, holds in each text whose other parts are within their limits
+-- a case has at most so many locals, and a name of an end is a program variable, of which there are at most 64; that a
+-- parameter is below the arity, and that another number has sixteen bits, holds in each text whose other parts are
+-- within their limits
 abbrev pub term_flaw : Scope → ℕ → NumberedTerm → Found
 term_flaw scope k Nil = None
 term_flaw InGoal k (Universal n primed) = over_if (nat_lt GREATEST_VARIABLE n) Variable k
 term_flaw InGoal k (Existential n primed) = over_if (nat_lt GREATEST_VARIABLE n) Variable k
+term_flaw InEnd k (Universal n primed) = over_if (nat_lt GREATEST_PROGRAM_VARIABLE n) ProgramVariables k
+term_flaw InEnd k (Existential n primed) = over_if (nat_lt GREATEST_VARIABLE n) Variable k
 term_flaw (InCase arity locals) k (Universal n primed) = ill_if (nat_le arity n) Parameter k
 term_flaw (InCase arity locals) k (Existential n primed) = over_if (nat_le locals n) Locals k
 
@@ -72,6 +76,12 @@ definition_flaw most hs n k d =
 abbrev pub definitions_flaw : Limits → List Heading → ℕ → List Definition → Found
 definitions_flaw most hs k ds = listed_flaw (definition_flaw most hs) definition_span 0 k ds
 
+-- ---- ends
+
+-- those of a program with these lines
+abbrev pub program_ends_flaw : Limits → List Heading → List Line → ℕ → List End → Found
+program_ends_flaw most hs ls k es = ends_flaw (term_flaw InEnd) term_span most hs (stops_at ls) 0 k es
+
 -- ---- goals
 
 -- the goal of a program with so many lines
@@ -89,6 +99,8 @@ abbrev pub problem_flaw : Problem → Found
 problem_flaw p =
     let most = limits p.version in
     let lines_at = 4 + definitions_span p.definitions in
+    let ends_at = lines_at + lines_span p.lines in
     or_later (definitions_flaw most (headings p.definitions) 4 p.definitions)
     (or_later (lines_flaw variable_flaw variable_span most lines_at p.lines)
-    (goal_flaw most (headings p.definitions) (length p.lines) (lines_at + lines_span p.lines) p.goal))
+    (or_later (program_ends_flaw most (headings p.definitions) p.lines ends_at p.ends)
+    (goal_flaw most (headings p.definitions) (length p.lines) (ends_at + ends_span p.ends) p.goal)))

@@ -10,15 +10,15 @@ use Rattle.problem_syntax.specs.Numbered as numbers
 use Rattle.problem_syntax.specs.Numbering.{numbered}
 use Rattle.formula_reader.specs.declared.problem.Problem.{Problem}
 use Rattle.formula_reader.specs.Flaws.{headings, problem_flaw}
-use Rattle.heap_reader.specs.LineValues.{program_value}
-use Rattle.formula_reader.specs.Values.{definition_value, goal_value}
+use Rattle.heap_reader.specs.EndValues.{ended_value}
+use Rattle.formula_reader.specs.Values.{term_value, definition_value, goal_value}
 
 -- the problem that a numbered tree says
 pub record IsProblemOf (tree : numbers.Problem) (p : Problem) : Type 0 where
   pub version : p.version ≡ tree.version
   pub most : p.defs.most ≡ limits tree.version
   pub definitions : p.defs.list ≡ map (definition_value (headings tree.definitions)) tree.definitions
-  pub program : p.program ≡ program_value tree.lines
+  pub program : p.program ≡ ended_value term_value (headings tree.definitions) tree.lines tree.ends
   pub goal : p.goal ≡ goal_value (headings tree.definitions) tree.goal
 
 -- a tree, which has names, says what it says with numbers by first occurrence in their place

@@ -5,7 +5,10 @@ use Rattle.heap_formula.specs.Words.{Each}
 use Rattle.goto_lang.specs.Faults.{program_fault}
 use Rattle.heap_reader.specs.Small.{IsSmallHeap}
 use Rattle.heap_reader.specs.LineValues.{line_value, variable_value}
+use Rattle.heap_reader.specs.EndSmall.{IsSmallEnd}
+use Rattle.heap_reader.specs.EndValues.{end_value, lines_with_ends}
 use Rattle.problem_syntax.specs.Numbered.{Heap, Definition, Goal, Entailment, From, Problem}
+use Rattle.formula_reader.specs.Flaws.{headings}
 use Rattle.formula_reader.specs.Values.{term_value}
 
 pub record IsSmallDefinition (d : Definition) : Type 0 where
@@ -31,4 +34,7 @@ pub record IsSmallProblem (p : Problem) : Type 0 where
   pub definitions : Each IsSmallDefinition p.definitions
   pub few : length p.definitions ≤ MOST_PREDICATES
   pub program : program_fault (map (line_value variable_value) p.lines) ≡ None
+  pub ended : program_fault (lines_with_ends 0 (map (line_value variable_value) p.lines)
+      (map (end_value term_value (headings p.definitions)) p.ends)) ≡ None
+  pub ends : Each (IsSmallEnd term_value) p.ends
   pub goal : IsSmallGoal p.goal

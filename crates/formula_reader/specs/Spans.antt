@@ -2,9 +2,10 @@
 use Rattle.std.specs.Prelude.{ℕ, ◌+◌, Bool, true, false, List}
 use Rattle.heap_reader.specs.Spans.{total, total_or, heap_span}
 use Rattle.heap_reader.specs.LineSpans.{line_span}
+use Rattle.heap_reader.specs.EndSpans.{end_span}
 use Rattle.problem_syntax.specs.declared.numbering.tree.NumberedTerm.{NumberedTerm}
 use Rattle.problem_syntax.specs.declared.numbering.tree.NumberedTerm.TheVariants.{Nil, Universal, Existential}
-use Rattle.problem_syntax.specs.Numbered.{Heap, Line, Definition, Goal, Entailment, From, Problem}
+use Rattle.problem_syntax.specs.Numbered.{Heap, Line, End, Definition, Goal, Entailment, From, Problem}
 
 -- a primed name has two tokens
 abbrev pub name_span : Bool → ℕ
@@ -24,6 +25,9 @@ heaps_span hs = total (heap_span term_span) hs
 
 abbrev pub lines_span : List Line → ℕ
 lines_span ls = total (line_span variable_span) ls
+
+abbrev pub ends_span : List End → ℕ
+ends_span es = total (end_span term_span) es
 
 -- a comma or ")" stands after a parameter
 abbrev pub parameter_span : List ℕ → ℕ
@@ -47,4 +51,4 @@ goal_span (From n h) = 4 + heap_span term_span h
 
 -- four tokens before the definitions
 abbrev pub problem_span : Problem → ℕ
-problem_span p = 4 + definitions_span p.definitions + lines_span p.lines + goal_span p.goal
+problem_span p = 4 + definitions_span p.definitions + lines_span p.lines + ends_span p.ends + goal_span p.goal

@@ -11,6 +11,7 @@ use crate::terms::{Scope, Variables};
 use crate::walk::definitions;
 use cyc_basics::limits::Limits;
 use cyc_lex::{IllFault, What};
+use heap_reader::ends::walk_ends;
 use heap_reader::lines::walk_lines;
 use heap_reader::{Flaw, Heads, ill, walk_heap, walk_heaps};
 use problem_syntax::numbering::{NumberedGoal, NumberedHeap, NumberedProblem};
@@ -76,7 +77,8 @@ fn walk(heads: &Heads<'_>, tree: &NumberedProblem<'_>) -> Result<usize, Flaw>
 {
     let most = tree.version.limits();
     let lines = definitions(heads, most, 4, &tree.definitions)?;
-    let at = walk_lines(&Variables, most, lines, &tree.lines)?;
+    let ends = walk_lines(&Variables, most, lines, &tree.lines)?;
+    let at = walk_ends(heads, &Scope::End, most, &tree.lines, ends, &tree.ends)?;
     goal(heads, most, tree.lines.len(), at, &tree.goal)
 }
 

@@ -19,6 +19,7 @@ use pred_defs::Defs;
 /// limits of the version, whatever they were made of: lists are as long and numbers as great as a text may have them,
 /// each predicate that is used is defined, with this number of arguments, and has a free name of its own, no
 /// existential variable stands in the goal's antecedent, and the goal's line, if it has one, is one of the program's.
+/// An end of the program is within them as a succedent is.
 #[derive(Drop)]
 pub struct Problem {
     pub version: Version,

@@ -15,11 +15,11 @@ ghost use Rattle.formula_reader.specs.Reading.{SpellsTree, IsProblemOf, IsRead, 
 use crate::goals::problem_flaw;
 use crate::heads::heads;
 use crate::problem::Problem;
-use crate::terms::Variables;
+use crate::terms::{Scope, Variables};
 use crate::values::{definitions, goal};
 use cyc_basics::memory::OutOfMemory;
 use cyc_lex::{ReadFault, Tokens, tokens};
-use heap_reader::lines::program;
+use heap_reader::ends::program;
 use heap_reader::{Heads, flaw_fault};
 use pred_defs::Defs;
 use problem_syntax::numbering::{NumberedProblem, number_problem};
@@ -38,7 +38,14 @@ fn problem_of_tree(
     ensures { IfOk result (IsProblemOf (problem_of tree.now)) }
 {
     let definitions = definitions(alloc, heads, &tree.definitions)?;
-    let program = program(alloc, &Variables, &tree.lines)?;
+    let program = program(
+        alloc,
+        heads,
+        &Variables,
+        &Scope::End,
+        &tree.lines,
+        &tree.ends,
+    )?;
     let goal = goal(alloc, heads, &tree.goal)?;
     Ok(Problem {
         version: tree.version,

@@ -1,7 +1,7 @@
 //! The terms and the program variables of problem files once they are numbered.
 
 ghost use Rattle.std.specs.Prelude.{◌≡◌, ◌+◌, ◌<◌, ◌^◌, nat_lt};
-ghost use Rattle.cyc_lex.specs.declared.fault.What.TheVariants.{Variable};
+ghost use Rattle.cyc_lex.specs.declared.fault.What.TheVariants.{Variable, ProgramVariables};
 ghost use Rattle.heap_reader.specs.Flaws.{over_if, IsWalk};
 ghost use Rattle.formula_reader.specs.Spans.{name_span};
 
@@ -12,11 +12,12 @@ use heap_reader::lines::VariableReader;
 use heap_reader::{Flaw, TermReader, ill, over};
 use problem_syntax::numbering::NumberedTerm;
 
-/// Where a term stands: in the goal, or in a case of a predicate with so many parameters, which may have so many local
-/// variables.
+/// Where a term stands: in the goal, in an end of the program, whose universal variables are the program's, or in a
+/// case of a predicate with so many parameters, which may have so many local variables.
 #[derive(Clone, Copy)]
 pub enum Scope {
     Goal,
+    End,
     Case { arity: usize, locals: u32 },
 }
 
@@ -38,6 +39,17 @@ fn goal_number(at: usize, n: usize, primed: bool) -> Result<usize, Flaw>
     Ok(behind(at, primed))
 }
 
+fn end_variable(at: usize, n: usize, primed: bool) -> Result<usize, Flaw>
+    requires { at + name_span primed < 2 ^ 64 }
+    ensures { IsWalk result
+        (over_if (nat_lt GREATEST_PROGRAM_VARIABLE n) ProgramVariables at) (at + name_span primed) }
+{
+    if n > GREATEST_PROGRAM_VARIABLE as usize {
+        return Err(over(What::ProgramVariables, at));
+    }
+    Ok(behind(at, primed))
+}
+
 impl TermReader for Scope {
     ghost use Rattle.formula_reader.specs.Spans as spans;
     ghost use Rattle.formula_reader.specs.Flaws as flaws;
@@ -55,7 +67,10 @@ impl TermReader for Scope {
         match (*self, term) {
             (_, NumberedTerm::Nil) => Ok(at + 2),
             (Scope::Goal, NumberedTerm::Universal(n, primed)) => goal_number(at, n, primed),
-            (Scope::Goal, NumberedTerm::Existential(n, primed)) => goal_number(at, n, primed),
+            (Scope::Goal | Scope::End, NumberedTerm::Existential(n, primed)) => {
+                goal_number(at, n, primed)
+            }
+            (Scope::End, NumberedTerm::Universal(n, primed)) => end_variable(at, n, primed),
             (Scope::Case { arity, .. }, NumberedTerm::Universal(n, primed)) => {
                 if n >= arity {
                     return Err(ill(IllFault::Parameter, at));

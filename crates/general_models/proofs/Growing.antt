@@ -1,7 +1,7 @@
 -- A run that comes back with more never halts.
 use Rattle.std.proofs.Common.{◌≡◌, ℕ, zero, suc, ◌+◌, ◌<◌, List, Some, refl, subst, sym, arith}
 use Rattle.heap_formula.specs.declared.commands.Command.{Command}
-use Rattle.heap_formula.specs.Programs.{Config as State, Halts, command_at, counted_from_one}
+use Rattle.heap_formula.specs.Programs.{Config as State, EndMeaning, Halts, command_at, counted_from_one}
 use Rattle.goto_lang.specs.Steps.{MayTake, Leads}
 use Rattle.general_models.specs.Growing.{Alike, TakesFresh}
 use Rattle.general_models.proofs.Chains.{Chain, halts_chain}
@@ -29,7 +29,7 @@ record Along (lines : List Command) (w n : ℕ) (d e : State) : Type 1 where
   pub chain : Chain lines w n d state
   pub alike : Alike related e state
 
-module _ (lines : List Command) (w : ℕ) (c : State) where
+module _ (End : EndMeaning) (lines : List Command) (w : ℕ) (c : State) where
   followed : (n : ℕ) (e : State) → FreshChain lines w n c e → (R : ℕ → ℕ → Type 0) (d : State) → Alike R c d
       → Along lines w n d e
   followed zero e r R d l = record {
@@ -53,16 +53,16 @@ module _ (lines : List Command) (w : ℕ) (c : State) where
 
   -- the first state of such a run is like the last: from no state like the first does the program halt
   never_from : (n : ℕ) (e : State) → 0 < n → FreshChain lines w n c e → (P : ℕ → ℕ → Type 0) → Alike P c e
-      → (bound m : ℕ) → m < bound → (R : ℕ → ℕ → Type 0) (d : State) → Alike R c d → Halts lines w m d → ⊥
+      → (bound m : ℕ) → m < bound → (R : ℕ → ℕ → Type 0) (d : State) → Alike R c d → Halts End lines w m d → ⊥
   never_from n e pos r P back zero m lt R d l h = absurd (omega arith)
   never_from n e pos r P back (suc bound) m lt R d l h =
       let a = followed n e r R d l in
-      let k = halts_chain lines w n m d a.state a.chain h in
+      let k = halts_chain End lines w n m d a.state a.chain h in
       let less : m ≡ k.0 + n = k.1 in
       never_from n e pos r P back bound k.0 (omega arith) (λ x z. (y : ℕ) × P x y × a.related y z) a.state
       (alike_through P a.related c e a.state back a.alike) k.2
 
   pub never_grows : (n : ℕ) (e : State) → 0 < n → FreshChain lines w n c e → (P : ℕ → ℕ → Type 0) → Alike P c e
-      → (m : ℕ) → Halts lines w m c → ⊥
+      → (m : ℕ) → Halts End lines w m c → ⊥
   never_grows n e pos r P back m h =
       never_from n e pos r P back (suc m) m (omega arith) (λ x y. x ≡ y) c (alike_same c) h

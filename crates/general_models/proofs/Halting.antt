@@ -4,17 +4,17 @@ use Rattle.std.proofs.Common.{refl, sym, ap, subst, ◌∙◌, arith}
 use Rattle.std.specs.Prelude.{◌↔◌, slice_get}
 use Rattle.std.proofs.lemmas.Bool.{cases_lt}
 use Rattle.heap_formula.specs.declared.commands.Command.{Command}
-use Rattle.heap_formula.specs.declared.commands.Command.TheVariants.{Stop as StopCommand}
 use Rattle.heap_formula.specs.Words.{Each, max_of}
 use Rattle.heap_formula.specs.Cells.{Cells, IsPart, cell_at}
 use Rattle.heap_formula.specs.Definitions.{Definition}
 use Rattle.heap_formula.specs.Symbolic.{SymbolicHeap}
 use Rattle.heap_formula.specs.Values.{Stack}
 use Rattle.heap_formula.specs.Meaning.{Satisfies}
-use Rattle.heap_formula.specs.Programs.{Config as State, Faults, MayPick, Halts, greatest, command_at, start_at}
-use Rattle.heap_formula.specs.Programs.{TerminationHolds}
+use Rattle.heap_formula.specs.Programs.{Config as State, Faults, IsStop, MayPick, EndMeaning, Stops, Halts, greatest}
+use Rattle.heap_formula.specs.Programs.{EndHolds, TerminationHolds, command_at, start_at}
+use Rattle.heap_formula.proofs.EndLaws.{stops_is_stop}
 use Rattle.goto_lang.specs.Steps.{Leads, IsSuccessor}
-use Rattle.goto_lang.proofs.Moves.{goes, leads_same, one_command}
+use Rattle.goto_lang.proofs.Moves.{goes, leads_same, one_command, stop_well}
 use Rattle.general_models.specs.declared.runs.picks.Pick.{Pick}
 use Rattle.general_models.specs.declared.runs.refuting.Ending.{Ending}
 use Rattle.general_models.specs.declared.runs.refuting.Ending.TheVariants.{FaultAfter, Repeat, Grow}
@@ -68,18 +68,23 @@ run_chain lines w picks zero c k d r = r.1
 run_chain lines w picks (suc n) c k d r =
     (r.1, run_chain lines w picks n c r.0 r.1 r.2, picked_goes lines w (slice_get picks r.0) r.1 d r.3)
 
-no_circle : (lines : List Command) (w n : ℕ) (c : State) → 0 < n → Chain lines w n c c → (bound m : ℕ) → m < bound
-    → Halts lines w m c → ⊥
-no_circle lines w n c pos r zero m l h = absurd (omega arith)
-no_circle lines w n c pos r (suc bound) m l h =
-    let a = halts_chain lines w n m c c r h in
-    let e : m ≡ a.0 + n = a.1 in no_circle lines w n c pos r bound a.0 (omega arith) a.2
+no_circle : (End : EndMeaning) (lines : List Command) (w n : ℕ) (c : State) → 0 < n → Chain lines w n c c → (bound m : ℕ) → m < bound
+    → Halts End lines w m c → ⊥
+no_circle End lines w n c pos r zero m l h = absurd (omega arith)
+no_circle End lines w n c pos r (suc bound) m l h =
+    let a = halts_chain End lines w n m c c r h in
+    let e : m ≡ a.0 + n = a.1 in no_circle End lines w n c pos r bound a.0 (omega arith) a.2
 
-no_fault : (lines : List Command) (w m : ℕ) (d : State) (x : Command) → command_at lines d ≡ Some x → Faults x d
-    → Halts lines w m d → ⊥
-no_fault lines w zero d x at f h = subst (λ y. Faults y d) (one_command x StopCommand at h) f
-no_fault lines w (suc m) d x at f (inl h) = subst (λ y. Faults y d) (one_command x StopCommand at h) f
-no_fault lines w (suc m) d x at f (inr h) = h.2 (subst (λ y. Faults y d) (one_command x h.0 at h.1) f)
+stops_well : (End : EndMeaning) (lines : List Command) (d : State) (x : Command) → command_at lines d ≡ Some x
+    → Faults x d → Stops End lines d → ⊥
+stops_well End lines d x at f h =
+    stop_well x d (subst IsStop (one_command h.0 x h.1 at) (stops_is_stop End h.0 d h.2)) f
+
+no_fault : (End : EndMeaning) (lines : List Command) (w m : ℕ) (d : State) (x : Command) → command_at lines d ≡ Some x → Faults x d
+    → Halts End lines w m d → ⊥
+no_fault End lines w zero d x at f h = stops_well End lines d x at f h
+no_fault End lines w (suc m) d x at f (inl h) = stops_well End lines d x at f h
+no_fault End lines w (suc m) d x at f (inr h) = h.2.1 (subst (λ y. Faults y d) (one_command x h.0 at h.1) f)
 
 -- ---- a run with given picks is one run
 
@@ -157,28 +162,29 @@ fresh_part lines w picks (suc t) s c j k d e le p r = elim (cases_lt t s) [
 
 -- ---- the laws
 
-pub never_halts : (lines : List Command) (w : ℕ) (picks : List Pick) (c : State) (ending : Ending)
-    → IsRefuting lines w picks c ending → (n : ℕ) → Halts lines w n c → ⊥
-never_halts lines w picks c (FaultAfter t) r n h =
-    let a = halts_chain lines w t n c r.1 (run_chain lines w picks t c r.0 r.1 r.2) h in
-    no_fault lines w a.0 r.1 r.3.1.0 r.3.1.1 r.3.1.2 a.2
-never_halts lines w picks c (Repeat s t) r n h =
+pub never_halts : (End : EndMeaning) (lines : List Command) (w : ℕ) (picks : List Pick) (c : State) (ending : Ending)
+    → IsRefuting lines w picks c ending → (n : ℕ) → Halts End lines w n c → ⊥
+never_halts End lines w picks c (FaultAfter t) r n h =
+    let a = halts_chain End lines w t n c r.1 (run_chain lines w picks t c r.0 r.1 r.2) h in
+    no_fault End lines w a.0 r.1 r.3.1.0 r.3.1.1 r.3.1.2 a.2
+never_halts End lines w picks c (Repeat s t) r n h =
     let lt : s < t = r.0 in
     let x = split lines w picks t s c r.2 r.3 (omega arith) r.5 in
     let same = run_same lines w picks s c x.2 r.1 x.3 r.3 x.4 r.4 in
     let circle = subst (λ m. Chain lines w x.0 m r.3) same.1 x.5 in
     let e : t ≡ s + x.0 = x.1 in
-    let a = halts_chain lines w s n c r.3 (run_chain lines w picks s c r.1 r.3 r.4) h in
-    no_circle lines w x.0 r.3 (omega arith) circle (suc a.0) a.0 (omega arith) a.2
-never_halts lines w picks c (Grow g) r n h =
+    let a = halts_chain End lines w s n c r.3 (run_chain lines w picks s c r.1 r.3 r.4) h in
+    no_circle End lines w x.0 r.3 (omega arith) circle (suc a.0) a.0 (omega arith) a.2
+never_halts End lines w picks c (Grow g) r n h =
     let lt : g.first < g.again = r.0 in
     let x = fresh_part lines w picks g.again g.first c r.1 r.2 r.3 r.4 (omega arith) r.5 r.6 in
     let same : g.again ≡ g.first + x.0 = x.1 in
-    let a = halts_chain lines w g.first n c r.3 (run_chain lines w picks g.first c r.1 r.3 r.5) h in
-    never_grows lines w r.3 x.0 r.4 (omega arith) x.2 (IsPaired g.renaming) r.7 a.0 a.2
+    let a = halts_chain End lines w g.first n c r.3 (run_chain lines w picks g.first c r.1 r.3 r.5) h in
+    never_grows End lines w r.3 x.0 r.4 (omega arith) x.2 (IsPaired g.renaming) r.7 a.0 a.2
 
 pub no_termination : (ds : List Definition) (lines : List Command) (i : ℕ) (a : SymbolicHeap) (s : Stack)
     (h part : Cells) (w : ℕ) (picks : List Pick) (ending : Ending) → 0 < w → IsPart part h → Satisfies ds s part a
     → IsRefuting lines w picks (start_at lines i s h) ending → TerminationHolds ds lines i a → ⊥
 no_termination ds lines i a s h part w picks ending pos is sat r t =
-    let x = t w pos s h part is sat in never_halts lines w picks (start_at lines i s h) ending r x.0 x.1
+    let x = t w pos s part is.0 h is.1 sat in
+    never_halts (EndHolds ds is.0) lines w picks (start_at lines i s h) ending r x.0 x.1

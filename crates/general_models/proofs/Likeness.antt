@@ -11,7 +11,7 @@ use Rattle.heap_formula.specs.declared.terms.Term.{Term}
 use Rattle.heap_formula.specs.declared.terms.Term.TheVariants.{Nil, Univ, Exist}
 use Rattle.heap_formula.specs.declared.commands.Command.{Command}
 use Rattle.heap_formula.specs.declared.commands.Command.TheVariants.{Assign, Load, Store, New, Free, IfEq, IfNeq, IfAny}
-use Rattle.heap_formula.specs.declared.commands.Command.TheVariants.{Goto, Stop}
+use Rattle.heap_formula.specs.declared.commands.Command.TheVariants.{Goto, Stop, Ends}
 use Rattle.heap_formula.specs.Words.{Each, max_of}
 use Rattle.heap_formula.specs.Values.{Stack}
 use Rattle.heap_formula.specs.Cells.{Cells, cell_at}
@@ -427,6 +427,7 @@ step_followed (IfNeq t u j) R w a vs c d e l may fresh leads =
 step_followed (IfAny j) R w a vs c d e l may fresh leads = any_jump R w c d e l j (nat_eq a 1) leads
 step_followed (Goto j) R w a vs c d e l may fresh leads = jumped R w c d e l (Goto j) j j refl refl leads
 step_followed Stop R w a vs c d e l may fresh leads = absurd leads
+step_followed (Ends bs) R w a vs c d e l may fresh leads = absurd leads
 
 -- ---- relations one after the other
 

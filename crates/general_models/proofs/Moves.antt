@@ -4,7 +4,7 @@ use Rattle.std.proofs.Common.{ap, subst, ◌∙◌, arith}
 use Rattle.std.specs.Prelude.{◌↔◌, slice_get, slice_index}
 use Rattle.heap_formula.specs.declared.commands.Command.{Command}
 use Rattle.heap_formula.specs.declared.commands.Command.TheVariants.{Assign, Load, Store, New, Free, IfEq, IfNeq, IfAny}
-use Rattle.heap_formula.specs.declared.commands.Command.TheVariants.{Goto, Stop as StopCommand}
+use Rattle.heap_formula.specs.declared.commands.Command.TheVariants.{Goto, Stop as StopCommand, Ends}
 use Rattle.heap_formula.specs.Values.{Stack}
 use Rattle.heap_formula.specs.Programs.{Config as State, command_at, first_values}
 use Rattle.goto_lang.specs.declared.configs.Config.{Config}
@@ -70,6 +70,7 @@ few_picks (IfNeq t u j) = omega arith
 few_picks (IfAny j) = omega arith
 few_picks (Goto j) = omega arith
 few_picks StopCommand = omega arith
+few_picks (Ends bs) = omega arith
 
 pub run_more : (lines : List Command) (w : ℕ) (picks : List Pick) (n : ℕ) (c : State) (j : ℕ) (d : State)
     (command : Command) (taken : ℕ) (r : Move) (next : Config) → PickedRun lines w picks n c j d

@@ -5,12 +5,13 @@ use Rattle.std.specs.Prelude.{◌↔◌, slice_get, IsTrue}
 use Rattle.std.proofs.lemmas.Bool.{cases_lt}
 use Rattle.heap_formula.specs.declared.commands.Command.{Command}
 use Rattle.heap_formula.specs.declared.commands.Command.TheVariants.{Assign, Load, Store, New, Free, IfEq, IfNeq, IfAny}
-use Rattle.heap_formula.specs.declared.commands.Command.TheVariants.{Goto, Stop as StopCommand}
-use Rattle.heap_formula.specs.Programs.{Config as State, Faults, command_at, greatest}
+use Rattle.heap_formula.specs.declared.commands.Command.TheVariants.{Goto, Stop as StopCommand, Ends as EndsCommand}
+use Rattle.heap_formula.specs.Programs.{Config as State, Faults, IsStop, IsAtStop, command_at, greatest}
 use Rattle.goto_lang.specs.declared.configs.Config.{Config}
 use Rattle.goto_lang.specs.States.{state_of, IsStateOf}
 use Rattle.goto_lang.specs.Steps.{MayTake, Leads}
-use Rattle.goto_lang.proofs.Moves.{leads_well, one_command, same_config}
+use Rattle.heap_formula.proofs.EndLaws.{at_each_stop}
+use Rattle.goto_lang.proofs.Moves.{stop_well, stop_takes, stop_stays, leads_well, one_command, same_config}
 use Rattle.general_models.specs.declared.runs.picks.Pick.{Pick}
 use Rattle.general_models.specs.declared.runs.running.Cause.{Cause}
 use Rattle.general_models.specs.declared.runs.running.Cause.TheVariants.{Stop, Fault, NoPick, BadPick, TooGreat}
@@ -40,6 +41,7 @@ module _ (lines : List Command) (w : ℕ) (pick : Option Pick) (d : State) where
   fault_suits (IfAny j) f = absurd f
   fault_suits (Goto j) f = absurd f
   fault_suits StopCommand f = absurd f
+  fault_suits (EndsCommand bs) f = absurd f
 
   fault_may : (x : Command) → Faults x d → MayTake x w (address_of pick) (fields_of pick) d
   fault_may (Assign x t) f = absurd f
@@ -52,10 +54,18 @@ module _ (lines : List Command) (w : ℕ) (pick : Option Pick) (d : State) where
   fault_may (IfAny j) f = absurd f
   fault_may (Goto j) f = absurd f
   fault_may StopCommand f = absurd f
+  fault_may (EndsCommand bs) f = absurd f
+
+  -- `stop` takes no pick
+  stop_suits : (x : Command) → IsStop x → suits x pick ≡ true
+  stop_suits = at_each_stop (λ x. suits x pick ≡ true) refl (λ bs. refl)
+
+  stop_may : (x : Command) → IsStop x → MayTake x w (address_of pick) (fields_of pick) d
+  stop_may x = stop_takes x w (address_of pick) (fields_of pick) d
 
   pub cause_stuck : (cause : Cause) (e : State) → IsCause lines w pick d cause → PickedStep lines w pick d e → ⊥
-  cause_stuck Stop e h s = subst (λ x. Leads x (address_of pick) (fields_of pick) d e)
-      (one_command s.command StopCommand s.at h.1) s.leads
+  cause_stuck Stop e h s = stop_stays s.command (address_of pick) (fields_of pick) d e
+      (subst IsStop (one_command h.1.0 s.command h.1.1 s.at) h.1.2) s.leads
   cause_stuck Fault e h s = leads_well s.command (address_of pick) (fields_of pick) d e s.leads
       (subst (λ x. Faults x d) (one_command h.1.0 s.command h.1.1 s.at) h.1.2)
   cause_stuck NoPick e h s =
@@ -69,9 +79,8 @@ module _ (lines : List Command) (w : ℕ) (pick : Option Pick) (d : State) where
   no_room : {X : Type 0} → HasRoom w d → 2 ^ 64 ≤ greatest d + w → X
   no_room r g = absurd (omega arith)
 
-  stop_fault : {X : Type 0} (x : Command) → command_at lines d ≡ Some StopCommand → command_at lines d ≡ Some x
-      → Faults x d → X
-  stop_fault x s at f = absurd (subst (λ y. Faults y d) (one_command x StopCommand at s) f)
+  stop_fault : {X : Type 0} (x : Command) → IsAtStop lines d → command_at lines d ≡ Some x → Faults x d → X
+  stop_fault x s at f = absurd (stop_well x d (subst IsStop (one_command s.0 x s.1 at) s.2) f)
 
   no_kind : {X : Type 0} (x y : Command) → command_at lines d ≡ Some x → command_at lines d ≡ Some y
       → suits x pick ≡ true → suits y pick ≡ false → X
@@ -86,20 +95,20 @@ module _ (lines : List Command) (w : ℕ) (pick : Option Pick) (d : State) where
   pub cause_same : (a b : Cause) → IsCause lines w pick d a → IsCause lines w pick d b → a ≡ b
   cause_same Stop Stop h g = refl
   cause_same Stop Fault h g = stop_fault g.1.0 h.1 g.1.1 g.1.2
-  cause_same Stop NoPick h g = no_kind StopCommand g.1.0 h.1 g.1.1 refl g.1.2
-  cause_same Stop BadPick h g = no_leave StopCommand g.1.0 h.1 g.1.1 tt g.1.3
+  cause_same Stop NoPick h g = no_kind h.1.0 g.1.0 h.1.1 g.1.1 (stop_suits h.1.0 h.1.2) g.1.2
+  cause_same Stop BadPick h g = no_leave h.1.0 g.1.0 h.1.1 g.1.1 (stop_may h.1.0 h.1.2) g.1.3
   cause_same Stop TooGreat h g = no_room h.0 g
   cause_same Fault Stop h g = stop_fault h.1.0 g.1 h.1.1 h.1.2
   cause_same Fault Fault h g = refl
   cause_same Fault NoPick h g = no_kind h.1.0 g.1.0 h.1.1 g.1.1 (fault_suits h.1.0 h.1.2) g.1.2
   cause_same Fault BadPick h g = no_leave h.1.0 g.1.0 h.1.1 g.1.1 (fault_may h.1.0 h.1.2) g.1.3
   cause_same Fault TooGreat h g = no_room h.0 g
-  cause_same NoPick Stop h g = no_kind StopCommand h.1.0 g.1 h.1.1 refl h.1.2
+  cause_same NoPick Stop h g = no_kind g.1.0 h.1.0 g.1.1 h.1.1 (stop_suits g.1.0 g.1.2) h.1.2
   cause_same NoPick Fault h g = no_kind g.1.0 h.1.0 g.1.1 h.1.1 (fault_suits g.1.0 g.1.2) h.1.2
   cause_same NoPick NoPick h g = refl
   cause_same NoPick BadPick h g = no_kind g.1.0 h.1.0 g.1.1 h.1.1 g.1.2 h.1.2
   cause_same NoPick TooGreat h g = no_room h.0 g
-  cause_same BadPick Stop h g = no_leave StopCommand h.1.0 g.1 h.1.1 tt h.1.3
+  cause_same BadPick Stop h g = no_leave g.1.0 h.1.0 g.1.1 h.1.1 (stop_may g.1.0 g.1.2) h.1.3
   cause_same BadPick Fault h g = no_leave g.1.0 h.1.0 g.1.1 h.1.1 (fault_may g.1.0 g.1.2) h.1.3
   cause_same BadPick NoPick h g = no_kind h.1.0 g.1.0 h.1.1 g.1.1 h.1.2 g.1.2
   cause_same BadPick BadPick h g = refl

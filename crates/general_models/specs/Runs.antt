@@ -1,8 +1,7 @@
 -- Runs that take their choices from a list.
 use Rattle.std.specs.Prelude.{◌≡◌, ℕ, zero, suc, ◌+◌, ◌^◌, ◌<◌, ◌≤◌, List, true, false, Option, Some, slice_get}
 use Rattle.heap_formula.specs.declared.commands.Command.{Command}
-use Rattle.heap_formula.specs.declared.commands.Command.TheVariants.{Stop as StopCommand}
-use Rattle.heap_formula.specs.Programs.{Config as State, Faults, command_at, greatest}
+use Rattle.heap_formula.specs.Programs.{Config as State, Faults, IsAtStop, command_at, greatest}
 use Rattle.goto_lang.specs.States.{state_of}
 use Rattle.goto_lang.specs.Steps.{MayTake, Leads}
 use Rattle.general_models.specs.declared.runs.picks.Pick.{Pick}
@@ -35,7 +34,7 @@ PickedRun lines w picks (suc n) c k d =
 -- why no step leads on from a state whose pick would be this one: it is at `stop`; its command faults; the pick is
 -- missing or of another kind; it is not allowed; or words of 64 bits do not hold what may be picked
 abbrev pub IsCause : List Command → ℕ → Option Pick → State → Cause → Type 0
-IsCause lines w pick d Stop = HasRoom w d × (command_at lines d ≡ Some StopCommand)
+IsCause lines w pick d Stop = HasRoom w d × IsAtStop lines d
 IsCause lines w pick d Fault = HasRoom w d × ((x : Command) × (command_at lines d ≡ Some x) × Faults x d)
 IsCause lines w pick d NoPick = HasRoom w d × ((x : Command) × (command_at lines d ≡ Some x) × (suits x pick ≡ false))
 IsCause lines w pick d BadPick =

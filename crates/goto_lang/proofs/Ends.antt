@@ -6,9 +6,9 @@ use Rattle.std.proofs.Math.ListN.{length-replicate}
 use Rattle.std.proofs.lemmas.Bool.{cases_lt, cases_order}
 use Rattle.heap_formula.specs.declared.commands.Command.{Command}
 use Rattle.heap_formula.specs.declared.commands.Command.TheVariants.{Assign, Load, Store, New, Free, IfEq, IfNeq, IfAny}
-use Rattle.heap_formula.specs.declared.commands.Command.TheVariants.{Goto, Stop as StopCommand}
+use Rattle.heap_formula.specs.declared.commands.Command.TheVariants.{Goto, Stop as StopCommand, Ends}
 use Rattle.heap_formula.specs.Cells.{Cells, cell_at}
-use Rattle.heap_formula.specs.Programs.{Config as State, Faults, MayPick, command_at, greatest}
+use Rattle.heap_formula.specs.Programs.{Config as State, Faults, IsStop, IsAtStop, MayPick, command_at, greatest}
 use Rattle.heap_formula.proofs.StepLaws.{may_pick}
 use Rattle.goto_lang.specs.declared.configs.Config.{Config}
 use Rattle.goto_lang.specs.declared.steps.Stepped.{Stepped}
@@ -20,7 +20,8 @@ use Rattle.goto_lang.specs.States.{state_of, IsStateOf, IsLeastFree}
 use Rattle.goto_lang.specs.Steps.{MayTake, Leads, IsSuccessor}
 use Rattle.goto_lang.specs.Effects.{Makes}
 use Rattle.goto_lang.specs.Endings.{zero_fields, IsLowestPick, LowestStep, LowestRun, IsEnding, IsLowest}
-use Rattle.goto_lang.proofs.Moves.{goes, leads_same, leads_well, one_command, leads_stay}
+use Rattle.goto_lang.proofs.Moves.{goes, leads_same, leads_well, one_command, leads_stay, stop_well}
+use Rattle.goto_lang.proofs.Moves.{stop_stays}
 
 -- ---- the least free address
 
@@ -49,6 +50,7 @@ pick_same (IfNeq t u j) h a b p q = least_same h a b p q
 pick_same (IfAny j) h a b p q = p ∙ sym q
 pick_same (Goto j) h a b p q = least_same h a b p q
 pick_same StopCommand h a b p q = least_same h a b p q
+pick_same (Ends bs) h a b p q = least_same h a b p q
 
 -- it is at most one above the greatest number
 least_within : (w : ℕ) (c : State) (a k : ℕ) → 0 < w → IsLeastFree c.heap a → MayPick w c k a (replicate k 0)
@@ -78,6 +80,7 @@ zero_may (IfNeq t u j) w c a pos l = tt
 zero_may (IfAny j) w c a pos l = omega arith
 zero_may (Goto j) w c a pos l = tt
 zero_may StopCommand w c a pos l = tt
+zero_may (Ends bs) w c a pos l = tt
 
 pub lowest_is_step : (lines : List Command) (w : ℕ) → 0 < w → (c d : State) → LowestStep lines c d
     → IsSuccessor lines w c d
@@ -95,11 +98,12 @@ zero_takes (IfNeq t u k) h a n i l s y j e = cc
 zero_takes (IfAny k) h a n i l s y j e = cc
 zero_takes (Goto k) h a n i l s y j e = cc
 zero_takes StopCommand h a n i l s y j e = cc
+zero_takes (Ends bs) h a n i l s y j e = cc
 
 pub makes_lowest : (lines : List Command) (c : State) (x : Command) (a : ℕ) (vs : List ℕ) (r : Stepped)
     → IsProgram lines → IsStateOf lines c → command_at lines c ≡ Some x → IsLowestPick x c.heap a → vs ≡ zero_fields x
     → Makes x a vs c r → IsLowest lines c r
-makes_lowest lines c x a vs Stop program is at l e m = at ∙ ap Some m
+makes_lowest lines c x a vs Stop program is at l e m = (x, at, m)
 makes_lowest lines c x a vs Fault program is at l e m = (x, at, m)
 makes_lowest lines c x a vs (To d) program is at l e m = (
   (x, a, at, l, subst (λ us. Leads x a us c (state_of d)) e m),
@@ -137,8 +141,9 @@ not_beyond lines n (suc m) c d e p stuck q =
           p) q.2))
     ]
 
-stop_stuck : (lines : List Command) (d : State) → command_at lines d ≡ Some StopCommand → IsStuck lines d
-stop_stuck lines d at e s = subst (λ x. Leads x s.1 (zero_fields x) d e) (one_command s.0 StopCommand s.2 at) s.4
+stop_stuck : (lines : List Command) (d : State) → IsAtStop lines d → IsStuck lines d
+stop_stuck lines d at e s =
+    stop_stays s.0 s.1 (zero_fields s.0) d e (subst IsStop (one_command at.0 s.0 at.1 s.2) at.2) s.4
 
 fault_stuck : (lines : List Command) (d : State) (x : Command) → command_at lines d ≡ Some x → Faults x d
     → IsStuck lines d
@@ -159,11 +164,11 @@ same_last lines steps n c d e le p stuck q =
     let same : n ≡ steps = omega arith in run_same lines steps c d e (subst (λ k. LowestRun lines k c d) same p) q
 
 stop_not_running : (lines : List Command) (steps n : ℕ) (c d e : State) (x : Command) → n ≤ steps
-    → LowestRun lines n c d → command_at lines d ≡ Some StopCommand → LowestRun lines steps c e
-    → command_at lines e ≡ Some x → x ≢ StopCommand → ⊥
+    → LowestRun lines n c d → IsAtStop lines d → LowestRun lines steps c e → command_at lines e ≡ Some x
+    → (¬ IsStop x) → ⊥
 stop_not_running lines steps n c d e x le p at q there not_stop =
     let same = same_last lines steps n c d e le p (stop_stuck lines d at) q in
-    not_stop (one_command x StopCommand there (subst (λ s. command_at lines s ≡ Some StopCommand) same at))
+    not_stop (subst IsStop (one_command at.0 x (subst (λ s. command_at lines s ≡ Some at.0) same at.1) there) at.2)
 
 fault_not_running : (lines : List Command) (steps n : ℕ) (c d e : State) (y x : Command) → n ≤ steps
     → LowestRun lines n c d → command_at lines d ≡ Some y → Faults y d → LowestRun lines steps c e
@@ -174,12 +179,12 @@ fault_not_running lines steps n c d e y x le p at f q there well =
     well (subst (λ z. Faults z e) command (subst (λ s. Faults y s) same f))
 
 stop_is_no_fault : (lines : List Command) (n m : ℕ) (c d e : State) (x : Command) → LowestRun lines n c d
-    → command_at lines d ≡ Some StopCommand → LowestRun lines m c e → command_at lines e ≡ Some x → Faults x e → ⊥
+    → IsAtStop lines d → LowestRun lines m c e → command_at lines e ≡ Some x → Faults x e → ⊥
 stop_is_no_fault lines n m c d e x p at q there f =
     let same = same_end lines n m c d e p (stop_stuck lines d at) q (fault_stuck lines e x there f) in
     let state = run_same lines m c d e (subst (λ k. LowestRun lines k c d) same p) q in
-    subst (λ y. Faults y e) (one_command x StopCommand there
-    (subst (λ s. command_at lines s ≡ Some StopCommand) state at)) f
+    stop_well x e (subst IsStop (one_command at.0 x (subst (λ s. command_at lines s ≡ Some at.0) state at.1) there)
+    at.2) f
 
 one_ending : (lines : List Command) (steps : ℕ) (c : State) (r q : Ran) → IsEnding lines steps c r
     → IsEnding lines steps c q → r ≡ q
@@ -227,7 +232,7 @@ running_here lines steps c d r next run h e =
       s.0,
       run,
       s.2,
-      (λ is. subst (λ x. Leads x s.1 (zero_fields x) d (state_of next)) is s.4),
+      (λ is. stop_stays s.0 s.1 (zero_fields s.0) d (state_of next) is s.4),
       leads_well s.0 s.1 (zero_fields s.0) d (state_of next) s.4,
     )
 

@@ -8,7 +8,7 @@ use Rattle.heap_formula.specs.declared.terms.Term.{Term}
 use Rattle.heap_formula.specs.declared.terms.Term.TheVariants.{Nil, Univ, Exist}
 use Rattle.heap_formula.specs.declared.commands.Command.{Command}
 use Rattle.heap_formula.specs.declared.commands.Command.TheVariants.{Assign, Load, Store, New, Free, IfEq, IfNeq, IfAny}
-use Rattle.heap_formula.specs.declared.commands.Command.TheVariants.{Goto, Stop}
+use Rattle.heap_formula.specs.declared.commands.Command.TheVariants.{Goto, Stop, Ends}
 use Rattle.heap_formula.specs.Words.{Each, max_of}
 use Rattle.heap_formula.specs.Programs.{counted_from_one, command_bound}
 use Rattle.heap_formula.specs.Fresh.{univ_bound}
@@ -84,6 +84,7 @@ stands n i (IfNeq t u j) le l e =
 stands n i (IfAny j) le l e = ((not_last n i _ refl l le, target_right n i j e), omega arith)
 stands n i (Goto j) le l e = (target_right n i j e, omega arith)
 stands n i Stop le l e = (tt, omega arith)
+stands n i (Ends bs) le l e = (tt, not_less 64 _ (no_choice (nat_lt 64 _) _ None e).0)
 
 record LineFacts (n i : ℕ) (l : ℕ × Command) : Type 0 where
   not_falling : (nat_eq i n && goes_on l.1) ≡ false

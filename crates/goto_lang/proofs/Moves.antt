@@ -6,11 +6,12 @@ use Rattle.std.proofs.lemmas.List.{length-set}
 use Rattle.std.specs.FinMap.{insert}
 use Rattle.heap_formula.specs.declared.commands.Command.{Command}
 use Rattle.heap_formula.specs.declared.commands.Command.TheVariants.{Assign, Load, Store, New, Free, IfEq, IfNeq, IfAny}
-use Rattle.heap_formula.specs.declared.commands.Command.TheVariants.{Goto, Stop as StopCommand}
+use Rattle.heap_formula.specs.declared.commands.Command.TheVariants.{Goto, Stop as StopCommand, Ends}
 use Rattle.heap_formula.specs.Words.{Each}
 use Rattle.heap_formula.specs.Programs.{Config as State, Goes, Faults, command_at, counted_from_one, field_of, value_in}
-use Rattle.heap_formula.specs.Programs.{greatest, next_line, jump}
+use Rattle.heap_formula.specs.Programs.{IsStop, greatest, next_line, jump}
 use Rattle.heap_formula.proofs.StepLaws.{step_exists}
+use Rattle.heap_formula.proofs.EndLaws.{at_each_stop}
 use Rattle.goto_lang.specs.declared.configs.Config.{Config}
 use Rattle.goto_lang.specs.declared.steps.Stepped.{Stepped}
 use Rattle.goto_lang.specs.declared.steps.Stepped.TheVariants.{Stop, Fault, To, BadPick}
@@ -50,6 +51,7 @@ leads_same (IfNeq t u j) a vs c d e p q = p ∙ sym q
 leads_same (IfAny j) a vs c d e p q = p ∙ sym q
 leads_same (Goto j) a vs c d e p q = p ∙ sym q
 leads_same StopCommand a vs c d e p q = absurd p
+leads_same (Ends bs) a vs c d e p q = absurd p
 
 pub leads_well : (x : Command) (a : ℕ) (vs : List ℕ) (c d : State) → Leads x a vs c d → Faults x c → ⊥
 leads_well (Assign x t) a vs c d p f = f
@@ -63,6 +65,7 @@ leads_well (IfNeq t u j) a vs c d p f = f
 leads_well (IfAny j) a vs c d p f = f
 leads_well (Goto j) a vs c d p f = f
 leads_well StopCommand a vs c d p f = f
+leads_well (Ends bs) a vs c d p f = f
 
 faults_take : (x : Command) (w a : ℕ) (vs : List ℕ) (c : State) → Faults x c → MayTake x w a vs c
 faults_take (Assign x t) w a vs c f = tt
@@ -75,6 +78,7 @@ faults_take (IfNeq t u j) w a vs c f = tt
 faults_take (IfAny j) w a vs c f = absurd f
 faults_take (Goto j) w a vs c f = tt
 faults_take StopCommand w a vs c f = tt
+faults_take (Ends bs) w a vs c f = tt
 
 pub one_command : {o : Option Command} (x y : Command) → o ≡ Some x → o ≡ Some y → x ≡ y
 one_command x y p q = cc
@@ -82,22 +86,34 @@ one_command x y p q = cc
 pub same_config : (d e : Config) → state_of d ≡ state_of e → d ≡ e
 same_config d e p = λ i. record { line = (p i).line; stack = (p i).stack; heap = (p i).heap }
 
+-- at `stop` nothing faults, nothing is taken, and nothing leads on
+pub stop_well : (x : Command) (c : State) → IsStop x → Faults x c → ⊥
+stop_well x c = at_each_stop (λ y. Faults y c → ⊥) (λ f. f) (λ bs f. f) x
+
+pub stop_takes : (x : Command) (w a : ℕ) (vs : List ℕ) (c : State) → IsStop x → MayTake x w a vs c
+stop_takes x w a vs c = at_each_stop (λ y. MayTake y w a vs c) tt (λ bs. tt) x
+
+pub stop_stays : (x : Command) (a : ℕ) (vs : List ℕ) (c d : State) → IsStop x → Leads x a vs c d → ⊥
+stop_stays x a vs c d = at_each_stop (λ y. Leads y a vs c d → ⊥) (λ l. l) (λ bs l. l) x
+
 pub one_answer : (lines : List Command) (w a : ℕ) (vs : List ℕ) (c : State) (r q : Stepped) → IsStep lines w a vs c r
     → IsStep lines w a vs c q → r ≡ q
 one_answer lines w a vs c Stop Stop h g = refl
-one_answer lines w a vs c Stop Fault h g = absurd (subst (λ x. Faults x c) (one_command g.0 StopCommand g.1 h) g.2)
+one_answer lines w a vs c Stop Fault h g = absurd
+    (stop_well g.0 c (subst IsStop (one_command h.0 g.0 h.1 g.1) h.2) g.2)
 one_answer lines w a vs c Stop (To d) h g = absurd
-    (subst (λ x. Leads x a vs c (state_of d)) (one_command g.0 StopCommand g.1 h) g.3)
+    (stop_stays g.0 a vs c (state_of d) (subst IsStop (one_command h.0 g.0 h.1 g.1) h.2) g.3)
 one_answer lines w a vs c Stop BadPick h g = absurd
-    (subst (λ x. MayTake x w a vs c → ⊥) (one_command g.0 StopCommand g.1 h) g.2 tt)
-one_answer lines w a vs c Fault Stop h g = absurd (subst (λ x. Faults x c) (one_command h.0 StopCommand h.1 g) h.2)
+    (g.2 (stop_takes g.0 w a vs c (subst IsStop (one_command h.0 g.0 h.1 g.1) h.2)))
+one_answer lines w a vs c Fault Stop h g = absurd
+    (stop_well h.0 c (subst IsStop (one_command g.0 h.0 g.1 h.1) g.2) h.2)
 one_answer lines w a vs c Fault Fault h g = refl
 one_answer lines w a vs c Fault (To d) h g = absurd
     (leads_well g.0 a vs c (state_of d) g.3 (subst (λ x. Faults x c) (one_command h.0 g.0 h.1 g.1) h.2))
 one_answer lines w a vs c Fault BadPick h g = absurd
     (g.2 (faults_take g.0 w a vs c (subst (λ x. Faults x c) (one_command h.0 g.0 h.1 g.1) h.2)))
 one_answer lines w a vs c (To d) Stop h g = absurd
-    (subst (λ x. Leads x a vs c (state_of d)) (one_command h.0 StopCommand h.1 g) h.3)
+    (stop_stays h.0 a vs c (state_of d) (subst IsStop (one_command g.0 h.0 g.1 h.1) g.2) h.3)
 one_answer lines w a vs c (To d) Fault h g = absurd
     (leads_well h.0 a vs c (state_of d) h.3 (subst (λ x. Faults x c) (one_command g.0 h.0 g.1 h.1) g.2))
 one_answer lines w a vs c (To d) (To e) h g =
@@ -106,7 +122,7 @@ one_answer lines w a vs c (To d) (To e) h g =
 one_answer lines w a vs c (To d) BadPick h g = absurd
     (g.2 (subst (λ x. MayTake x w a vs c) (one_command h.0 g.0 h.1 g.1) h.2))
 one_answer lines w a vs c BadPick Stop h g = absurd
-    (subst (λ x. MayTake x w a vs c → ⊥) (one_command h.0 StopCommand h.1 g) h.2 tt)
+    (h.2 (stop_takes h.0 w a vs c (subst IsStop (one_command g.0 h.0 g.1 h.1) g.2)))
 one_answer lines w a vs c BadPick Fault h g = absurd
     (h.2 (faults_take h.0 w a vs c (subst (λ x. Faults x c) (one_command g.0 h.0 g.1 h.1) g.2)))
 one_answer lines w a vs c BadPick (To d) h g = absurd
@@ -119,7 +135,7 @@ exactly lines w a vs c r h q = (λ e. subst (IsStep lines w a vs c) e h, λ g. o
 
 pub makes_step : (lines : List Command) (w a : ℕ) (vs : List ℕ) (c : State) (x : Command) (r : Stepped)
     → command_at lines c ≡ Some x → MayTake x w a vs c → Makes x a vs c r → IsStep lines w a vs c r
-makes_step lines w a vs c x Stop at may m = at ∙ ap Some m
+makes_step lines w a vs c x Stop at may m = (x, at, m)
 makes_step lines w a vs c x Fault at may m = (x, at, m)
 makes_step lines w a vs c x (To d) at may m = (x, at, may, m)
 makes_step lines w a vs c x BadPick at may m = absurd m
@@ -208,6 +224,7 @@ taken (IfAny j) w c d h (inr g) = record {
 }
 taken (Goto j) w c d h g = record { address = 0; fields = []; fits = omega arith; fields_fit = tt; may = tt; leads = g }
 taken StopCommand w c d h g = absurd g
+taken (Ends bs) w c d h g = absurd g
 
 one_of_two : (b : Bool) (j k : ℕ) (c d : State) → d ≡ jump c (cond b j k) → (d ≡ jump c j) ⊎ (d ≡ jump c k)
 one_of_two true j k c d e = inl e
@@ -224,6 +241,7 @@ goes (IfNeq t u j) w a vs c d may l = l
 goes (IfAny j) w a vs c d may l = one_of_two (nat_eq a 1) j (c.line + 1) c d l
 goes (Goto j) w a vs c d may l = l
 goes StopCommand w a vs c d may l = l
+goes (Ends bs) w a vs c d may l = l
 
 pub successors : (lines : List Command) (w : ℕ) (c : State) (d : Config) → greatest c + w < 2 ^ 64
     → IsSuccessor lines w c (state_of d) ↔ ((a : ℕ) × (vs : List ℕ) × (a < 2 ^ 64) × Each (λ v. v < 2 ^ 64) vs
@@ -240,7 +258,7 @@ made d = record { line = d.line; stack = d.stack; heap = d.heap }
 
 -- with positive headroom there is a step
 pub some_step : (lines : List Command) (w : ℕ) (c : Config) (x : Command) → 0 < w
-    → command_at lines (state_of c) ≡ Some x → x ≢ StopCommand → (¬ Faults x (state_of c))
+    → command_at lines (state_of c) ≡ Some x → (¬ IsStop x) → (¬ Faults x (state_of c))
     → (a : ℕ) × (vs : List ℕ) × (d : Config) × IsStep lines w a vs (state_of c) (To d)
 some_step lines w c x pos at ns nf =
     let s = step_exists lines w (state_of c) x pos at ns nf in picked x at s.0 s.1
@@ -258,6 +276,7 @@ some_step lines w c x pos at ns nf =
     picked (IfAny j) at d (inr g) = (0, [], made d, (_, at, omega arith, g))
     picked (Goto j) at d g = (0, [], made d, (_, at, tt, g))
     picked StopCommand at d g = absurd g
+    picked (Ends bs) at d g = absurd g
 
 -- ---- states of the program
 
@@ -291,6 +310,7 @@ leads_stay lines (IfAny j) a vs c d is may l = let lt = may.0 in
     jump_stays lines c d _ is (either (length lines) _ j (c.line + 1) may.1 (omega arith, omega arith)) l
 leads_stay lines (Goto j) a vs c d is may l = jump_stays lines c d j is may l
 leads_stay lines StopCommand a vs c d is may l = absurd l
+leads_stay lines (Ends bs) a vs c d is may l = absurd l
 
 pub new_takes : (x : Command) (w a : ℕ) (vs : List ℕ) (c : State) (n i : ℕ) → MayTake x w a vs c → MayStandAt n i x
     → (y k : ℕ) → x ≡ New y k → (0 < a) × (0 < length vs)
@@ -304,6 +324,7 @@ new_takes (IfNeq t u k) w a vs c n i may s y j e = cc
 new_takes (IfAny k) w a vs c n i may s y j e = cc
 new_takes (Goto k) w a vs c n i may s y j e = cc
 new_takes StopCommand w a vs c n i may s y j e = cc
+new_takes (Ends bs) w a vs c n i may s y j e = cc
 
 pub makes_stay : (lines : List Command) (a : ℕ) (vs : List ℕ) (c : State) (x : Command) (r : Stepped) (d : Config)
     → IsProgram lines → IsStateOf lines c → command_at lines c ≡ Some x → Makes x a vs c r → r ≡ To d

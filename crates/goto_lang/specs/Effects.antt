@@ -2,16 +2,15 @@
 use Rattle.std.specs.Prelude.{◌≡◌, ℕ, ◌-◌, List, Some, None, slice_set}
 use Rattle.std.specs.FinMap.{insert, remove}
 use Rattle.heap_formula.specs.declared.commands.Command.{Command}
-use Rattle.heap_formula.specs.declared.commands.Command.TheVariants.{Stop as StopCommand}
 use Rattle.heap_formula.specs.Cells.{cell_at}
-use Rattle.heap_formula.specs.Programs.{Config as State, Faults, counted_from_one, field_at, next_line, jump}
+use Rattle.heap_formula.specs.Programs.{Config as State, Faults, IsStop, counted_from_one, field_at, next_line, jump}
 use Rattle.goto_lang.specs.declared.steps.Stepped.{Stepped}
 use Rattle.goto_lang.specs.declared.steps.Stepped.TheVariants.{Stop, Fault, To, BadPick}
 use Rattle.goto_lang.specs.States.{state_of}
 use Rattle.goto_lang.specs.Steps.{Leads}
 
 abbrev pub Makes : Command → ℕ → List ℕ → State → Stepped → Type 0
-Makes x a vs c Stop = x ≡ StopCommand
+Makes x a vs c Stop = IsStop x
 Makes x a vs c Fault = Faults x c
 Makes x a vs c (To d) = Leads x a vs c (state_of d)
 Makes x a vs c BadPick = ⊥

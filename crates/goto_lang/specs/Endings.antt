@@ -1,9 +1,9 @@
 -- The run in which `new` takes the least free address and fills with 0, and `if *` goes to the next line.
-use Rattle.std.specs.Prelude.{◌≡◌, ◌≢◌, ℕ, zero, suc, ◌≤◌, List, [], replicate, Some}
+use Rattle.std.specs.Prelude.{◌≡◌, ℕ, zero, suc, ◌≤◌, List, [], replicate, Some}
 use Rattle.heap_formula.specs.declared.commands.Command.{Command}
-use Rattle.heap_formula.specs.declared.commands.Command.TheVariants.{New, IfAny, Stop as StopCommand}
+use Rattle.heap_formula.specs.declared.commands.Command.TheVariants.{New, IfAny}
 use Rattle.heap_formula.specs.Cells.{Cells}
-use Rattle.heap_formula.specs.Programs.{Config as State, Faults, command_at}
+use Rattle.heap_formula.specs.Programs.{Config as State, Faults, IsStop, IsAtStop, command_at}
 use Rattle.goto_lang.specs.declared.runs.Ran.{Ran}
 use Rattle.goto_lang.specs.declared.runs.Ran.TheVariants.{Stopped, Faulted, Running}
 use Rattle.goto_lang.specs.declared.steps.Stepped.{Stepped}
@@ -34,17 +34,16 @@ LowestRun lines (suc n) c d = (m : State) × LowestRun lines n c m × LowestStep
 -- the run from c, of at most this many steps: it stops after n, it faults after n, or it makes them all and does
 -- neither then
 abbrev pub IsEnding : List Command → ℕ → State → Ran → Type 0
-IsEnding lines steps c (Stopped n) = (n ≤ steps) × (d : State) × LowestRun lines n c d
-    × (command_at lines d ≡ Some StopCommand)
+IsEnding lines steps c (Stopped n) = (n ≤ steps) × (d : State) × LowestRun lines n c d × IsAtStop lines d
 IsEnding lines steps c (Faulted n) =
     (n ≤ steps) × (d : State) × (x : Command) × LowestRun lines n c d × (command_at lines d ≡ Some x) × Faults x d
 IsEnding lines steps c Running =
-    (d : State) × (x : Command) × LowestRun lines steps c d × (command_at lines d ≡ Some x) × (x ≢ StopCommand)
+    (d : State) × (x : Command) × LowestRun lines steps c d × (command_at lines d ≡ Some x) × (¬ IsStop x)
     × (¬ Faults x d)
 
 -- the step from c that picks as above: it is at `stop`, it faults, or it leads to a state of the program
 abbrev pub IsLowest : List Command → State → Stepped → Type 0
-IsLowest lines c Stop = command_at lines c ≡ Some StopCommand
+IsLowest lines c Stop = IsAtStop lines c
 IsLowest lines c Fault = (x : Command) × (command_at lines c ≡ Some x) × Faults x c
 IsLowest lines c (To d) = LowestStep lines c (state_of d) × IsStateOf lines (state_of d)
 IsLowest lines c BadPick = ⊥

@@ -1,14 +1,18 @@
 -- Why numbered lines are no program: the first fault in the order of the text.
 use Rattle.std.specs.Prelude.{◌≡◌, ℕ, ◌+◌, Result, Ok, Err, List, [], ◌∷◌, length, Bool, true, false, not, ◌&&◌, ◌||◌}
-use Rattle.std.specs.Prelude.{nat_eq, nat_lt, if◌then◌else◌, Option, Some, None}
+use Rattle.std.specs.Prelude.{nat_eq, nat_lt, if◌then◌else◌, map, Option, Some, None}
 use Rattle.std.specs.Option.{option_or}
 use Rattle.cyc_basics.specs.declared.limits.TheConstants.{GREATEST_PROGRAM_VARIABLE, MOST_ARGUMENTS, MOST_LINES}
+use Rattle.cyc_basics.specs.declared.limits.TheConstants.{MOST_VARIABLES}
 use Rattle.heap_formula.specs.declared.terms.Term.{Term}
 use Rattle.heap_formula.specs.declared.terms.Term.TheVariants.{Nil, Univ, Exist}
 use Rattle.heap_formula.specs.declared.commands.Command.{Command}
 use Rattle.heap_formula.specs.declared.commands.Command.TheVariants.{Assign, Load, Store, New, Free, IfEq, IfNeq, IfAny}
-use Rattle.heap_formula.specs.declared.commands.Command.TheVariants.{Goto, Stop}
+use Rattle.heap_formula.specs.declared.commands.Command.TheVariants.{Goto, Stop, Ends}
 use Rattle.heap_formula.specs.declared.heaps.Count.TheVariants.{Lines, ProgramVariables, Fields}
+use Rattle.heap_formula.specs.Fresh.{heap_bound}
+use Rattle.heap_formula.specs.Symbolic.{SymbolicHeap}
+use Rattle.heap_formula.specs.Words.{max_of}
 use Rattle.goto_lang.specs.declared.faults.ProgramFault.{ProgramFault}
 use Rattle.goto_lang.specs.declared.faults.ProgramFault.TheVariants.{Jump, FallsOff, Numbering, Limit, OutOfMemory}
 
@@ -28,6 +32,10 @@ field_fault k = if nat_eq k 0 || nat_lt MOST_ARGUMENTS k then Some (Limit Fields
 abbrev pub jump_fault : ℕ → ℕ → ℕ → Option ProgramFault
 jump_fault n i j = if nat_eq j 0 || nat_lt n j then Some (Jump i) else None
 
+-- a universal variable of an end is one of the program's
+abbrev pub ends_fault : List SymbolicHeap → Option ProgramFault
+ends_fault bs = if nat_lt MOST_VARIABLES (max_of (map heap_bound bs)) then Some (Limit ProgramVariables) else None
+
 -- the first fault in the command of line i of n, in the order of its words
 abbrev pub command_fault : ℕ → ℕ → Command → Option ProgramFault
 command_fault n i (Assign x t) = option_or (variable_fault x) (term_fault t)
@@ -40,11 +48,13 @@ command_fault n i (IfNeq t u j) = option_or (term_fault t) (option_or (term_faul
 command_fault n i (IfAny j) = jump_fault n i j
 command_fault n i (Goto j) = jump_fault n i j
 command_fault n i Stop = None
+command_fault n i (Ends bs) = ends_fault bs
 
 -- after the command the run may go on with the next line
 abbrev pub goes_on : Command → Bool
 goes_on (Goto j) = false
 goes_on Stop = false
+goes_on (Ends bs) = false
 goes_on x = true
 
 -- the first fault of line i of n: it is the last and may fall off; it is too many; its number; its command

@@ -3,12 +3,12 @@ use Rattle.std.specs.Prelude.{◌≡◌, ℕ, ◌<◌, ◌≤◌, List, map, len
 use Rattle.cyc_basics.specs.declared.limits.TheConstants.{MOST_ARGUMENTS, MOST_LINES, MOST_VARIABLES}
 use Rattle.heap_formula.specs.declared.commands.Command.{Command}
 use Rattle.heap_formula.specs.declared.commands.Command.TheVariants.{Assign, Load, Store, New, Free, IfEq, IfNeq, IfAny}
-use Rattle.heap_formula.specs.declared.commands.Command.TheVariants.{Goto, Stop}
+use Rattle.heap_formula.specs.declared.commands.Command.TheVariants.{Goto, Stop, Ends}
 use Rattle.heap_formula.specs.Words.{Each}
 use Rattle.heap_formula.specs.Closedness.{IsUniversal}
 use Rattle.heap_formula.specs.Programs.{counted_from_one, program_variables}
 
--- no existential variable stands in the command
+-- no existential variable stands in the command; those of an end are bound in it
 abbrev pub IsUniversalCommand : Command → Type 0
 IsUniversalCommand (Assign x t) = IsUniversal t
 IsUniversalCommand (Load x t k) = IsUniversal t
@@ -20,6 +20,7 @@ IsUniversalCommand (IfNeq t u j) = IsUniversal t × IsUniversal u
 IsUniversalCommand (IfAny j) = Unit {0}
 IsUniversalCommand (Goto j) = Unit {0}
 IsUniversalCommand Stop = Unit {0}
+IsUniversalCommand (Ends bs) = Unit {0}
 
 -- the commands of numbered lines
 abbrev pub commands_of : List (ℕ × Command) → List Command
@@ -43,6 +44,7 @@ MayStandAt n i (IfNeq t u j) = (i < n) × IsLineOf n j
 MayStandAt n i (IfAny j) = (i < n) × IsLineOf n j
 MayStandAt n i (Goto j) = IsLineOf n j
 MayStandAt n i Stop = Unit {0}
+MayStandAt n i (Ends bs) = Unit {0}
 
 -- at most 4,096 lines and 64 variables; each command may stand at its line
 pub record IsProgram (lines : List Command) : Type 0 where

@@ -2,8 +2,8 @@
 use Rattle.std.specs.Prelude.{◌≡◌, ℕ, ◌+◌, ◌≤◌, List, Some, nat_eq, if◌then◌else◌, slice_set}
 use Rattle.std.specs.FinMap.{insert}
 use Rattle.heap_formula.specs.declared.commands.Command.{Command}
-use Rattle.heap_formula.specs.declared.commands.Command.TheVariants.{New, IfAny, Stop as StopCommand}
-use Rattle.heap_formula.specs.Programs.{Config as State, Goes, Faults, MayPick, command_at, next_line, jump}
+use Rattle.heap_formula.specs.declared.commands.Command.TheVariants.{New, IfAny}
+use Rattle.heap_formula.specs.Programs.{Config as State, Goes, Faults, IsAtStop, MayPick, command_at, next_line, jump}
 use Rattle.goto_lang.specs.declared.steps.Stepped.{Stepped}
 use Rattle.goto_lang.specs.declared.steps.Stepped.TheVariants.{Stop, Fault, To, BadPick}
 use Rattle.goto_lang.specs.States.{state_of}
@@ -23,7 +23,7 @@ Leads x a vs c d = Goes x 0 c d
 
 -- the step from c: it is at `stop`; it faults; it leads to d with an allowed pick; its pick is not allowed
 abbrev pub IsStep : List Command → ℕ → ℕ → List ℕ → State → Stepped → Type 0
-IsStep lines w a vs c Stop = command_at lines c ≡ Some StopCommand
+IsStep lines w a vs c Stop = IsAtStop lines c
 IsStep lines w a vs c Fault = (x : Command) × (command_at lines c ≡ Some x) × Faults x c
 IsStep lines w a vs c (To d) =
     (x : Command) × (command_at lines c ≡ Some x) × MayTake x w a vs c × Leads x a vs c (state_of d)

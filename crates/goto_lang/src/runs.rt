@@ -22,11 +22,11 @@ pub enum Ran {
     Running,
 }
 
-fn zeros(alloc: Global, command: Command) -> Result<Vec<u64>, OutOfMemory>
-    ensures { IfOk result (λ v. v.items ≡ zero_fields command) }
+fn zeros(alloc: Global, command: &Command) -> Result<Vec<u64>, OutOfMemory>
+    ensures { IfOk result (λ v. v.items ≡ zero_fields command.now) }
 {
     match command {
-        Command::New(_, k) => Ok(vec![in alloc; 0u64; k as usize]?),
+        Command::New(_, k) => Ok(vec![in alloc; 0u64; *k as usize]?),
         Command::Assign(_, _)
         | Command::Load(_, _, _)
         | Command::Store(_, _, _)
@@ -35,12 +35,13 @@ fn zeros(alloc: Global, command: Command) -> Result<Vec<u64>, OutOfMemory>
         | Command::IfNeq(_, _, _)
         | Command::IfAny(_)
         | Command::Goto(_)
-        | Command::Stop => Ok(Vec::new(alloc)),
+        | Command::Stop
+        | Command::Ends(_) => Ok(Vec::new(alloc)),
     }
 }
 
-fn lowest_pick(command: Command, heap: &Cells) -> u64
-    ensures { IsLowestPick command heap.now result }
+fn lowest_pick(command: &Command, heap: &Cells) -> u64
+    ensures { IsLowestPick command.now heap.now result }
 {
     match command {
         Command::IfAny(_) => 0,
@@ -52,7 +53,8 @@ fn lowest_pick(command: Command, heap: &Cells) -> u64
         | Command::IfEq(_, _, _)
         | Command::IfNeq(_, _, _)
         | Command::Goto(_)
-        | Command::Stop => heap.least_free(),
+        | Command::Stop
+        | Command::Ends(_) => heap.least_free(),
     }
 }
 

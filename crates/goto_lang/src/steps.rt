@@ -169,27 +169,27 @@ fn branch(config: &Config, holds: bool, line: u32) -> Result<Stepped, OutOfMemor
 /// What a command makes of a state, where `new` may take this address and these values, and `if *` this pick.
 pub(crate) fn perform(
     alloc: Global,
-    command: Command,
+    command: &Command,
     config: &Config,
     pick: u64,
     fill: &[u64],
 ) -> Result<Stepped, OutOfMemory>
-    requires variables { command_bound command ≤ length config.now.stack }
+    requires variables { command_bound command.now ≤ length config.now.stack }
     requires line { config.now.line < 2 ^ 32 - 1 }
-    requires new_cell { (x k : ℕ) → command ≡ NewCell x k → (0 < pick) × (0 < length fill.now) }
-    ensures { IfOk result (λ r. Makes command pick fill.now (state_of config.now) r) }
+    requires new_cell { (x k : ℕ) → command.now ≡ NewCell x k → (0 < pick) × (0 < length fill.now) }
+    ensures { IfOk result (λ r. Makes command.now pick fill.now (state_of config.now) r) }
 {
     match command {
-        Command::Assign(x, t) => Ok(Stepped::To(assigned(config, x, config.value(t))?)),
-        Command::Load(x, t, k) => loaded(config, x, config.value(t), k),
-        Command::Store(t, k, u) => stored(alloc, config, config.value(t), k, config.value(u)),
-        Command::New(x, _) => Ok(Stepped::To(allocated(alloc, config, x, pick, fill)?)),
-        Command::Free(t) => freed(config, config.value(t)),
-        Command::IfEq(t, u, j) => branch(config, config.value(t) == config.value(u), j),
-        Command::IfNeq(t, u, j) => branch(config, config.value(t) != config.value(u), j),
-        Command::IfAny(j) => branch(config, pick == 1, j),
-        Command::Goto(j) => Ok(Stepped::To(at_line(config, j)?)),
-        Command::Stop => Ok(Stepped::Stop),
+        Command::Assign(x, t) => Ok(Stepped::To(assigned(config, *x, config.value(*t))?)),
+        Command::Load(x, t, k) => loaded(config, *x, config.value(*t), *k),
+        Command::Store(t, k, u) => stored(alloc, config, config.value(*t), *k, config.value(*u)),
+        Command::New(x, _) => Ok(Stepped::To(allocated(alloc, config, *x, pick, fill)?)),
+        Command::Free(t) => freed(config, config.value(*t)),
+        Command::IfEq(t, u, j) => branch(config, config.value(*t) == config.value(*u), *j),
+        Command::IfNeq(t, u, j) => branch(config, config.value(*t) != config.value(*u), *j),
+        Command::IfAny(j) => branch(config, pick == 1, *j),
+        Command::Goto(j) => Ok(Stepped::To(at_line(config, *j)?)),
+        Command::Stop | Command::Ends(_) => Ok(Stepped::Stop),
     }
 }
 
@@ -216,12 +216,12 @@ fn may_pick(config: &Config, w: u64, k: u8, pick: u64, fill: &[u64]) -> bool
         && all_within(fill, most)
 }
 
-fn may_take(command: Command, config: &Config, w: u64, pick: u64, fill: &[u64]) -> bool
+fn may_take(command: &Command, config: &Config, w: u64, pick: u64, fill: &[u64]) -> bool
     requires { greatest (state_of config.now) + w < 2 ^ 64 }
-    ensures { IsTrue result ↔ MayTake command w pick fill.now (state_of config.now) }
+    ensures { IsTrue result ↔ MayTake command.now w pick fill.now (state_of config.now) }
 {
     match command {
-        Command::New(_, k) => may_pick(config, w, k, pick, fill),
+        Command::New(_, k) => may_pick(config, w, *k, pick, fill),
         Command::IfAny(_) => pick <= 1,
         Command::Assign(_, _)
         | Command::Load(_, _, _)
@@ -230,7 +230,8 @@ fn may_take(command: Command, config: &Config, w: u64, pick: u64, fill: &[u64]) 
         | Command::IfEq(_, _, _)
         | Command::IfNeq(_, _, _)
         | Command::Goto(_)
-        | Command::Stop => true,
+        | Command::Stop
+        | Command::Ends(_) => true,
     }
 }
 

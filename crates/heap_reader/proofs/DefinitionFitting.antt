@@ -6,6 +6,7 @@ use Rattle.cyc_basics.specs.Limits.{AreLimits}
 use Rattle.cyc_basics.specs.declared.limits.Limits.{Limits}
 use Rattle.cyc_basics.specs.declared.limits.TheConstants.{MOST_ARGUMENTS, MOST_LOCALS}
 use Rattle.cyc_lex.specs.declared.fault.What.TheVariants.{Arguments, Cases, Predicates, Variable, Locals}
+use Rattle.cyc_lex.specs.declared.fault.What.TheVariants.{ProgramVariables}
 use Rattle.cyc_lex.specs.declared.fault.IllFault.TheVariants.{Parameter, Duplicate}
 use Rattle.heap_syntax.specs.declared.definitions.tree.TermTree.{TermTree}
 use Rattle.heap_syntax.specs.declared.definitions.tree.TermTree.TheVariants.{Nil, Univ, Exist}
@@ -16,7 +17,7 @@ use Rattle.heap_reader.specs.Small.{IsSmall, IsSmallHeap}
 use Rattle.heap_reader.proofs.NoFlaw.{neither, not_over, not_ill, at_most, below, each_of, few_all}
 use Rattle.heap_reader.proofs.Fitting.{heap_small, heaps_small}
 use Rattle.heap_reader.specs.declared.definitions.scope.Scope.{Scope}
-use Rattle.heap_reader.specs.declared.definitions.scope.Scope.TheVariants.{Outside, Case as InCase}
+use Rattle.heap_reader.specs.declared.definitions.scope.Scope.TheVariants.{Outside, End as InEnd, Case as InCase}
 use Rattle.heap_reader.specs.DefinitionSpans.{term_span, definition_span}
 use Rattle.heap_reader.specs.DefinitionFlaws.{term_flaw, head_flaw, definition_flaw}
 use Rattle.heap_reader.specs.DefinitionValues.{term_value}
@@ -25,6 +26,7 @@ use Rattle.heap_reader.specs.DefinitionSmall.{IsSmallDefinition}
 -- the numbers of a case's variables fit their types
 abbrev pub IsNarrow : Scope → Type 0
 IsNarrow Outside = Unit {0}
+IsNarrow InEnd = Unit {0}
 IsNarrow (InCase arity locals) = (arity ≤ MOST_ARGUMENTS) × (locals ≤ MOST_LOCALS)
 
 pub term_small : (scope : Scope) → IsNarrow scope → (k : ℕ) (t : TermTree) → term_flaw scope k t ≡ None
@@ -32,6 +34,8 @@ pub term_small : (scope : Scope) → IsNarrow scope → (k : ℕ) (t : TermTree)
 term_small scope narrow k Nil e = tt
 term_small Outside narrow k (Univ n) e = let h = at_most 65534 n (not_over _ Variable (k + 1) e) in omega arith
 term_small Outside narrow k (Exist n) e = let h = at_most 65534 n (not_over _ Variable (k + 1) e) in omega arith
+term_small InEnd narrow k (Univ n) e = let h = at_most 63 n (not_over _ ProgramVariables (k + 1) e) in omega arith
+term_small InEnd narrow k (Exist n) e = let h = at_most 65534 n (not_over _ Variable (k + 1) e) in omega arith
 term_small (InCase arity locals) narrow k (Univ n) e =
     let h = below arity n (not_ill _ Parameter (k + 1) e) in
     omega (arith, h, narrow.0)

@@ -23,7 +23,7 @@ uterm_words Nil f = refl
 uterm_words (Univ n) f = refl
 uterm_words (Exist n) f = absurd f.0
 
-terms_words : (b : Bool) (t : TermTree) → (terms b).fits t → length ((terms b).words t) + 1 ≡ term_span t
+pub terms_words : (b : Bool) (t : TermTree) → (terms b).fits t → length ((terms b).words t) + 1 ≡ term_span t
 unfolding terms
 terms_words true t f = uterm_words t f
 terms_words false t f = term_words t

@@ -3,6 +3,7 @@ use Rattle.std.proofs.Common.{ℕ, ◌+◌, ◌≤◌, List, take, arith}
 use Rattle.std.specs.Prelude.{nat_lt, nat_le, is_some}
 use Rattle.cyc_basics.specs.declared.limits.Limits.{Limits}
 use Rattle.cyc_lex.specs.declared.fault.What.TheVariants.{Arguments, Cases, Predicates, Variable, Locals}
+use Rattle.cyc_lex.specs.declared.fault.What.TheVariants.{ProgramVariables}
 use Rattle.cyc_lex.specs.declared.fault.IllFault.TheVariants.{Parameter, Duplicate}
 use Rattle.heap_syntax.specs.declared.definitions.tree.TermTree.{TermTree}
 use Rattle.heap_syntax.specs.declared.definitions.tree.TermTree.TheVariants.{Nil, Univ, Exist}
@@ -13,7 +14,7 @@ use Rattle.heap_reader.specs.Flaws.{ill_if, over_if, or_later, arity_in, heap_fl
 use Rattle.heap_reader.proofs.WithinSpans.{Before, first_before, over_before, ill_before, later, heap_before}
 use Rattle.heap_reader.proofs.WithinSpans.{heaps_before}
 use Rattle.heap_reader.specs.declared.definitions.scope.Scope.{Scope}
-use Rattle.heap_reader.specs.declared.definitions.scope.Scope.TheVariants.{Outside, Case as InCase}
+use Rattle.heap_reader.specs.declared.definitions.scope.Scope.TheVariants.{Outside, End as InEnd, Case as InCase}
 use Rattle.heap_reader.specs.DefinitionSpans.{term_span, definition_span}
 use Rattle.heap_reader.specs.DefinitionFlaws.{term_flaw, head_flaw, definition_flaw}
 
@@ -21,6 +22,8 @@ pub term_before : (scope : Scope) (k : ℕ) (t : TermTree) → Before (term_flaw
 term_before scope k Nil = tt
 term_before Outside k (Univ n) = over_before (nat_lt 65534 n) Variable (k + 1) (k + 3) (omega arith)
 term_before Outside k (Exist n) = over_before (nat_lt 65534 n) Variable (k + 1) (k + 3) (omega arith)
+term_before InEnd k (Univ n) = over_before (nat_lt 63 n) ProgramVariables (k + 1) (k + 3) (omega arith)
+term_before InEnd k (Exist n) = over_before (nat_lt 65534 n) Variable (k + 1) (k + 3) (omega arith)
 term_before (InCase arity locals) k (Univ n) = ill_before (nat_le arity n) Parameter (k + 1) (k + 3) (omega arith)
 term_before (InCase arity locals) k (Exist n) = over_before (nat_le locals n) Locals (k + 1) (k + 3) (omega arith)
 

@@ -23,6 +23,15 @@ pub mod Programs
 pub mod LineWithinSpans
 pub mod LineSpanLaws
 pub mod LineWider
+pub mod EndLoops
+pub mod EndWithinSpans
+pub mod EndSpanLaws
+pub mod EndWider
+pub mod EndFronts
+pub mod HeapTerms
+pub mod EndFitting
+pub mod EndsAgain
+pub mod NumberedEnds
 mod Stable
 mod DefinitionLaw
 mod Parts

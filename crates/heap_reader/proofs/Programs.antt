@@ -47,15 +47,15 @@ unless : {X : Type 0} (b : Bool) (x : X) → b ≡ false → (if b then Some x e
 unless true x e = absurd cc
 unless false x e = refl
 
-past : {X : Type 0} (b : Bool) (x : X) (y : Option X) → (if b then Some x else y) ≡ None → y ≡ None
+pub past : {X : Type 0} (b : Bool) (x : X) (y : Option X) → (if b then Some x else y) ≡ None → y ≡ None
 past true x y e = absurd cc
 past false x y e = e
 
-passes : {X : Type 0} (b : Bool) (x : X) (y : Option X) → b ≡ false → y ≡ None → (if b then Some x else y) ≡ None
+pub passes : {X : Type 0} (b : Bool) (x : X) (y : Option X) → b ≡ false → y ≡ None → (if b then Some x else y) ≡ None
 passes true x y e h = absurd cc
 passes false x y e h = h
 
-both_none : {X : Type 0} (a b : Option X) → a ≡ None → b ≡ None → option_or a b ≡ None
+pub both_none : {X : Type 0} (a b : Option X) → a ≡ None → b ≡ None → option_or a b ≡ None
 both_none None b p q = q
 both_none (Some x) b p q = absurd cc
 
@@ -131,6 +131,7 @@ command_small n i (commands.IfNeq t v j) u e =
 command_small n i (commands.IfAny j) u e = tt
 command_small n i (commands.Goto j) u e = tt
 command_small n i commands.Stop u e = tt
+command_small n i (commands.Ends bs) u e = tt
 
 line_small : (n i : ℕ) (l : ℕ × Command) → IsUniversalCommand l.1 → line_fault n i l ≡ None → IsSmallLine l
 line_small n i l u e =

@@ -1,16 +1,17 @@
 -- The first flaw of terms and of definitions: what is ill-formed or passes a limit, and at which token.
 use Rattle.std.specs.Prelude.{ℕ, ◌+◌, nat_lt, nat_le, is_some, List, map, take, None}
 use Rattle.cyc_basics.specs.declared.limits.Limits.{Limits}
-use Rattle.cyc_basics.specs.declared.limits.TheConstants.{GREATEST_VARIABLE, MOST_PREDICATES}
+use Rattle.cyc_basics.specs.declared.limits.TheConstants.{GREATEST_PROGRAM_VARIABLE, GREATEST_VARIABLE, MOST_PREDICATES}
 use Rattle.cyc_lex.specs.declared.fault.IllFault.TheVariants.{Duplicate, Parameter}
 use Rattle.cyc_lex.specs.declared.fault.What.TheVariants.{Predicates, Arguments, Cases, Locals, Variable}
+use Rattle.cyc_lex.specs.declared.fault.What.TheVariants.{ProgramVariables}
 use Rattle.heap_reader.specs.Trees.{Heading}
 use Rattle.heap_reader.specs.Flaws.{Found, ill_if, over_if, or_later, arity_in, heaps_flaw}
 use Rattle.heap_syntax.specs.declared.definitions.tree.TermTree.{TermTree}
 use Rattle.heap_syntax.specs.declared.definitions.tree.TermTree.TheVariants.{Nil, Univ, Exist}
 use Rattle.heap_syntax.specs.DefinitionTrees.{Definition}
 use Rattle.heap_reader.specs.declared.definitions.scope.Scope.{Scope}
-use Rattle.heap_reader.specs.declared.definitions.scope.Scope.TheVariants.{Outside, Case as InCase}
+use Rattle.heap_reader.specs.declared.definitions.scope.Scope.TheVariants.{Outside, End as InEnd, Case as InCase}
 use Rattle.heap_reader.specs.DefinitionSpans.{term_span}
 
 -- what a use of the predicate is compared with
@@ -22,11 +23,14 @@ headings ds = map heading ds
 
 -- ---- each part begins at token k, and n members stand before it
 
--- outside cases a number is at most 65,534; in a case $n is a parameter and ?n one of so many locals
+-- outside cases a number is at most 65,534; in an end $n is a program variable, of which there are at most 64; in a
+-- case $n is a parameter and ?n one of so many locals
 abbrev pub term_flaw : Scope → ℕ → TermTree → Found
 term_flaw scope k Nil = None
 term_flaw Outside k (Univ n) = over_if (nat_lt GREATEST_VARIABLE n) Variable (k + 1)
 term_flaw Outside k (Exist n) = over_if (nat_lt GREATEST_VARIABLE n) Variable (k + 1)
+term_flaw InEnd k (Univ n) = over_if (nat_lt GREATEST_PROGRAM_VARIABLE n) ProgramVariables (k + 1)
+term_flaw InEnd k (Exist n) = over_if (nat_lt GREATEST_VARIABLE n) Variable (k + 1)
 term_flaw (InCase arity locals) k (Univ n) = ill_if (nat_le arity n) Parameter (k + 1)
 term_flaw (InCase arity locals) k (Exist n) = over_if (nat_le locals n) Locals (k + 1)
 

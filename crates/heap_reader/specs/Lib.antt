@@ -15,4 +15,8 @@ pub mod LineSpans
 pub mod LineFlaws
 pub mod LineValues
 pub mod LineSmall
+pub mod EndSpans
+pub mod EndFlaws
+pub mod EndValues
+pub mod EndSmall
 pub mod Items

@@ -2,7 +2,7 @@
 use Rattle.std.specs.Prelude.{ℕ, ◌<◌}
 use Rattle.heap_formula.specs.declared.commands.Command.{Command}
 use Rattle.heap_formula.specs.declared.commands.Command.TheVariants.{Assign, Load, Store, New, Free, IfEq, IfNeq, IfAny}
-use Rattle.heap_formula.specs.declared.commands.Command.TheVariants.{Goto, Stop}
+use Rattle.heap_formula.specs.declared.commands.Command.TheVariants.{Goto, Stop, Ends}
 use Rattle.heap_reader.specs.Small.{IsSmallTerm}
 
 abbrev pub IsSmallCommand : Command → Type 0
@@ -16,6 +16,7 @@ IsSmallCommand (IfNeq t u j) = IsSmallTerm t × IsSmallTerm u
 IsSmallCommand (IfAny j) = Unit {0}
 IsSmallCommand (Goto j) = Unit {0}
 IsSmallCommand Stop = Unit {0}
+IsSmallCommand (Ends bs) = Unit {0}
 
 abbrev pub IsSmallLine : ℕ × Command → Type 0
 IsSmallLine l = IsSmallCommand l.1

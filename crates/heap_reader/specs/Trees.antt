@@ -6,6 +6,8 @@ use Rattle.heap_syntax.specs.declared.tree.SpatialTree.{SpatialTree}
 use Rattle.heap_syntax.specs.declared.tree.SpatialTree.TheVariants as trees
 use Rattle.heap_syntax.specs.declared.tree.HeapTree.{HeapTree}
 use Rattle.heap_syntax.specs.Trees.{Spatial, Cell, Predicate, Heap}
+use Rattle.heap_syntax.specs.declared.ends.tree.EndTree.{EndTree}
+use Rattle.heap_syntax.specs.EndTrees.{End}
 use Rattle.heap_reader.specs.declared.head.Head.{Head}
 
 abbrev pub spatial_of : {T : Type 0} → SpatialTree T → Spatial T
@@ -14,6 +16,9 @@ spatial_of (trees.Predicate name args) = Predicate name.now args.items
 
 abbrev pub heap_of : {T : Type 0} → HeapTree T → Heap T
 heap_of h = record { pure = h.pure.items; spatial = map spatial_of h.spatial.items }
+
+abbrev pub end_of : {T : Type 0} → EndTree T → End T
+end_of e = record { number = e.number; disjuncts = map heap_of e.disjuncts.items }
 
 -- a predicate's name and arity
 pub record Heading : Type 0 where

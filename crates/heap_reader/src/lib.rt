@@ -4,6 +4,7 @@
 
 mod atom_walk;
 pub mod definitions;
+pub mod ends;
 mod flaw;
 mod form;
 mod head;

@@ -28,12 +28,12 @@ uterm-inner = shaped-inner {A = Unit {0} ⊎ ℕ} to_uterm from_uterm IsUniversa
     (alt-inner (is_one nil) (one nil) _ (one-inner nil (λ u f. nil-word))
     (after-inner dollar (one number) syms.dollar_word number-inner))
 
-terms-inner : (b : Bool) → Inner (terms b)
+pub terms-inner : (b : Bool) → Inner (terms b)
 unfolding terms
 terms-inner true = uterm-inner
 terms-inner false = term-inner
 
-spatial-of : (b : Bool) → Inner (spatial (terms b))
+pub spatial-of : (b : Bool) → Inner (spatial (terms b))
 spatial-of b = spatial-inner (terms_of (terms b)) (terms-inner b)
 
 pub heap-of : (b : Bool) → Inner (heap (terms b))

@@ -13,4 +13,8 @@ pub mod WrittenTerms
 pub mod DefinitionFronts
 pub mod DefinitionFrontFits
 pub mod CommandLaws
+pub mod SeenEnds
+pub mod EndTexts
+pub mod EndLaws
+pub mod NumberedEndLaws
 mod PremisesTexts

@@ -11,7 +11,7 @@ use Rattle.heap_syntax.specs.Trees as shared
 use Rattle.heap_syntax.specs.declared.definitions.tree.TermTree.{TermTree}
 use Rattle.heap_syntax.specs.DefinitionTrees.{spatial_of, heap_of}
 
-map-same : {A B : Type 0} (f g : A → B) → ((x : A) → f x ≡ g x) → (xs : List A) → map f xs ≡ map g xs
+pub map-same : {A B : Type 0} (f g : A → B) → ((x : A) → f x ≡ g x) → (xs : List A) → map f xs ≡ map g xs
 map-same f g same [] = refl
 map-same f g same (x ∷ xs) = rw (same x, map-same f g same xs) refl
 

@@ -3,13 +3,17 @@ use Rattle.std.specs.Prelude.{◌≡◌, ℕ, Bool, true, false, List, [], ◌�
 use Rattle.std.specs.Coded.{Coded-set, coded_bool, ×_prop, Unit-prop, le_prop}
 use Rattle.cyc_grammar.specs.Syntax.{Syntax, Class, after, list1, uncons, fits_many}
 use Rattle.cyc_grammar.specs.Classes.{is_free_name}
-use Rattle.heap_syntax.specs.Words.{reserved, comma, colon, star, bar, closing, closing_brace}
+use Rattle.heap_syntax.specs.Words.{reserved, or_word, comma, colon, semicolon, star, bar, closing, closing_brace}
 use Rattle.heap_syntax.specs.Grammar as shared
 use Rattle.heap_syntax.specs.Grammar.{some_heap}
 use Rattle.heap_syntax.specs.declared.definitions.tree.TermTree.TheVariants.{Nil, Univ, Exist}
 use Rattle.heap_syntax.specs.DefinitionTrees.{Cell, Predicate}
 use Rattle.heap_syntax.specs.DefinitionGrammar.{term, uterm, terms, pures, fields, arguments, spatial, spatials, heap}
-use Rattle.heap_syntax.specs.DefinitionGrammar.{heaps, cases, definition, some_pure, some_spatial}
+use Rattle.heap_syntax.specs.DefinitionGrammar.{heaps, cases, definition, some_pure, some_spatial, terms_of}
+use Rattle.heap_syntax.specs.declared.version.Version.{Version}
+use Rattle.heap_syntax.specs.LineGrammar.{has_ends}
+use Rattle.heap_syntax.specs.EndGrammar as endings
+use Rattle.heap_syntax.specs.NumberedEnds.{end, ends}
 
 abbrev pub HasOneFit : {T : Type 0} → Syntax T → Type 0
 HasOneFit {T = T} s = (t : T) → IsProp (s.fits t)
@@ -99,3 +103,18 @@ pub definition-fit : HasOneFit definition
 unfolding definition cases
 definition-fit d =
     ×_prop Unit-prop (×_prop (name-fit d.name) (×_prop le_prop (heaps-fit bar closing_brace d.cases)))
+
+-- ---- ends
+
+end-fit : HasOneFit end
+unfolding endings.end
+end-fit e = ×_prop Unit-prop (×_prop le_prop (heaps-fit or_word semicolon e.disjuncts))
+
+ends_where-fit : (b : Bool) → HasOneFit (endings.ends_where b (terms_of (terms false)) (spatial (terms false)))
+ends_where-fit true es = many-fit end end-fit es
+ends_where-fit false [] = ×_prop Unit-prop Unit-prop
+ends_where-fit false (e ∷ es) = ×_prop (λ a b. absurd a) Unit-prop
+
+pub ends-fit : (version : Version) → HasOneFit (ends version)
+unfolding endings.ends
+ends-fit version es = ends_where-fit (has_ends version) es

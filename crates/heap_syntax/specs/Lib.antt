@@ -7,7 +7,11 @@ pub mod Numbers
 pub mod Members
 pub mod DefinitionTrees
 pub mod DefinitionGrammar
-pub mod Fits
 pub mod DefinitionKeeping
 pub mod LineTrees
 pub mod LineGrammar
+pub mod EndTrees
+pub mod EndGrammar
+pub mod EndKeeping
+pub mod NumberedEnds
+pub mod Fits

@@ -109,6 +109,12 @@ has_free_branches One = false
 has_free_branches Two = true
 has_free_branches Three = true
 
+-- which versions have ends
+abbrev pub has_ends : Version → Bool
+has_ends One = false
+has_ends Two = false
+has_ends Three = true
+
 -- what stands after "if": free_branch, where the version has it, or branch
 abbrev pub IsBranch : {V : Type 0} → ℕ ⊎ Branch V → Type 0
 IsBranch (inl n) = ⊥

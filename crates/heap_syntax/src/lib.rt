@@ -2,6 +2,7 @@
 #![tactic(auto)]
 
 pub mod definitions;
+pub mod ends;
 mod form;
 mod keep;
 pub mod lines;

@@ -16,8 +16,23 @@ const X: Term = Term::Univ(0);
 
 const Y: Term = Term::Univ(1);
 
+/// A command without an end, as a table has it.
+#[derive(Clone, Copy)]
+enum Plain {
+    Assign(u16, Term),
+    Load(u16, Term, u8),
+    Store(Term, u8, Term),
+    New(u16, u8),
+    Free(Term),
+    IfEq(Term, Term, u32),
+    IfNeq(Term, Term, u32),
+    IfAny(u32),
+    Goto(u32),
+    Stop,
+}
+
 /// A line's number and its command, of which no term is an existential.
-type Line = (u32, Command);
+type Line = (u32, Plain);
 
 fn universal_term(term: Term) -> Term
     ensures { IsUniversal result }
@@ -28,24 +43,24 @@ fn universal_term(term: Term) -> Term
     }
 }
 
-fn universal(command: Command) -> Command
+fn universal(command: Plain) -> Command
     ensures { IsUniversalCommand result }
 {
     match command {
-        Command::Assign(x, t) => Command::Assign(x, universal_term(t)),
-        Command::Load(x, t, k) => Command::Load(x, universal_term(t), k),
-        Command::Store(t, k, u) => Command::Store(universal_term(t), k, universal_term(u)),
-        Command::New(x, k) => Command::New(x, k),
-        Command::Free(t) => Command::Free(universal_term(t)),
-        Command::IfEq(t, u, j) => Command::IfEq(universal_term(t), universal_term(u), j),
-        Command::IfNeq(t, u, j) => Command::IfNeq(universal_term(t), universal_term(u), j),
-        Command::IfAny(j) => Command::IfAny(j),
-        Command::Goto(j) => Command::Goto(j),
-        Command::Stop => Command::Stop,
+        Plain::Assign(x, t) => Command::Assign(x, universal_term(t)),
+        Plain::Load(x, t, k) => Command::Load(x, universal_term(t), k),
+        Plain::Store(t, k, u) => Command::Store(universal_term(t), k, universal_term(u)),
+        Plain::New(x, k) => Command::New(x, k),
+        Plain::Free(t) => Command::Free(universal_term(t)),
+        Plain::IfEq(t, u, j) => Command::IfEq(universal_term(t), universal_term(u), j),
+        Plain::IfNeq(t, u, j) => Command::IfNeq(universal_term(t), universal_term(u), j),
+        Plain::IfAny(j) => Command::IfAny(j),
+        Plain::Goto(j) => Command::Goto(j),
+        Plain::Stop => Command::Stop,
     }
 }
 
-fn lines_of(alloc: Global, lines: &[Line]) -> Result<Vec<Line>, OutOfMemory>
+fn lines_of(alloc: Global, lines: &[Line]) -> Result<Vec<(u32, Command)>, OutOfMemory>
     ensures { IfOk result (λ v. Each IsUniversalCommand (commands_of v.items)) }
 {
     let mut copies = Vec::new(alloc);
@@ -99,23 +114,19 @@ fn is_wanted(stepped: &Stepped, wanted: Wanted) -> bool {
 struct Step(&'static [Line], State, u64, &'static [u64], Wanted);
 
 /// `x := new 1` from the stack 1 and no cells: 1 is the greatest number, so 1 and 2 may be picked and 0 to 2 filled.
-const NEW: &[Line] = &[(1, Command::New(0, 1)), (2, Command::Stop)];
+const NEW: &[Line] = &[(1, Plain::New(0, 1)), (2, Plain::Stop)];
 
 const ONE: State = State(1, &[1], 0, &[]);
 
 /// `if * goto 3`; the fields are not looked at.
-const ANY: &[Line] = &[
-    (1, Command::IfAny(3)),
-    (2, Command::Free(X)),
-    (3, Command::Stop),
-];
+const ANY: &[Line] = &[(1, Plain::IfAny(3)), (2, Plain::Free(X)), (3, Plain::Stop)];
 
 const FOUR: State = State(1, &[4], 1, &[5]);
 
 /// A test of both variables, and an end.
-const TEST: Line = (2, Command::IfEq(X, Y, 1));
+const TEST: Line = (2, Plain::IfEq(X, Y, 1));
 
-const END: Line = (3, Command::Stop);
+const END: Line = (3, Plain::Stop);
 
 /// The state of the lines that end so.
 const TWO: State = State(1, &[1, 9], 1, &[5, 6]);
@@ -130,49 +141,49 @@ static STEPS: &[Step] = &[
     Step(NEW, ONE, 1, &[2, 2], Wanted::BadPick),
     // what each command leads to
     Step(
-        &[(1, Command::Assign(1, X)), TEST, END],
+        &[(1, Plain::Assign(1, X)), TEST, END],
         TWO,
         1,
         &[0],
         Wanted::Leads(State(2, &[1, 1], 1, &[5, 6])),
     ),
     Step(
-        &[(1, Command::Load(1, X, 2)), TEST, END],
+        &[(1, Plain::Load(1, X, 2)), TEST, END],
         TWO,
         1,
         &[0],
         Wanted::Leads(State(2, &[1, 6], 1, &[5, 6])),
     ),
     Step(
-        &[(1, Command::Store(X, 2, Y)), TEST, END],
+        &[(1, Plain::Store(X, 2, Y)), TEST, END],
         TWO,
         1,
         &[0],
         Wanted::Leads(State(2, &[1, 9], 1, &[5, 9])),
     ),
     Step(
-        &[(1, Command::Free(X)), TEST, END],
+        &[(1, Plain::Free(X)), TEST, END],
         TWO,
         1,
         &[0],
         Wanted::Leads(State(2, &[1, 9], 1, &[])),
     ),
     Step(
-        &[(1, Command::IfEq(X, Y, 3)), TEST, END],
+        &[(1, Plain::IfEq(X, Y, 3)), TEST, END],
         TWO,
         1,
         &[0],
         Wanted::Leads(State(2, &[1, 9], 1, &[5, 6])),
     ),
     Step(
-        &[(1, Command::IfNeq(X, Y, 3)), TEST, END],
+        &[(1, Plain::IfNeq(X, Y, 3)), TEST, END],
         TWO,
         1,
         &[0],
         Wanted::Leads(State(3, &[1, 9], 1, &[5, 6])),
     ),
     Step(
-        &[(1, Command::Goto(3)), TEST, END],
+        &[(1, Plain::Goto(3)), TEST, END],
         TWO,
         1,
         &[0],
@@ -180,34 +191,34 @@ static STEPS: &[Step] = &[
     ),
     // faults, and an end
     Step(
-        &[(1, Command::Free(NIL)), TEST, END],
+        &[(1, Plain::Free(NIL)), TEST, END],
         TWO,
         1,
         &[0],
         Wanted::Fault,
     ),
     Step(
-        &[(1, Command::Load(0, X, 3)), TEST, END],
+        &[(1, Plain::Load(0, X, 3)), TEST, END],
         TWO,
         1,
         &[0],
         Wanted::Fault,
     ),
     Step(
-        &[(1, Command::Store(Y, 1, X)), TEST, END],
+        &[(1, Plain::Store(Y, 1, X)), TEST, END],
         TWO,
         1,
         &[0],
         Wanted::Fault,
     ),
     Step(
-        &[(1, Command::New(0, 1)), TEST, END],
+        &[(1, Plain::New(0, 1)), TEST, END],
         TWO,
         1,
         &[0],
         Wanted::BadPick,
     ),
-    Step(&[(1, Command::Stop), TEST, END], TWO, 1, &[0], Wanted::Stop),
+    Step(&[(1, Plain::Stop), TEST, END], TWO, 1, &[0], Wanted::Stop),
     // free branches take 0 and 1
     Step(ANY, FOUR, 0, &[9], Wanted::Leads(State(2, &[4], 1, &[5]))),
     Step(ANY, FOUR, 1, &[9], Wanted::Leads(State(3, &[4], 1, &[5]))),
@@ -245,10 +256,10 @@ struct Run(&'static [Line], State, u64, Ran);
 
 /// Walks the list at x.
 const WALK: &[Line] = &[
-    (1, Command::IfEq(X, NIL, 4)),
-    (2, Command::Load(0, X, 1)),
-    (3, Command::Goto(1)),
-    (4, Command::Stop),
+    (1, Plain::IfEq(X, NIL, 4)),
+    (2, Plain::Load(0, X, 1)),
+    (3, Plain::Goto(1)),
+    (4, Plain::Stop),
 ];
 
 const LIST: State = State(1, &[1], 1, &[0]);
@@ -256,7 +267,7 @@ const LIST: State = State(1, &[1], 1, &[0]);
 static RUNS: &[Run] = &[
     // past a free branch
     Run(
-        &[(1, Command::IfAny(1)), (2, Command::Stop)],
+        &[(1, Plain::IfAny(1)), (2, Plain::Stop)],
         State(1, &[], 0, &[]),
         9,
         Ran::Stopped(1),
@@ -270,11 +281,11 @@ static RUNS: &[Run] = &[
     // frees x, takes a new cell for y, and stops only where y has the address that was freed
     Run(
         &[
-            (1, Command::Free(X)),
-            (2, Command::New(1, 1)),
-            (3, Command::IfEq(X, Y, 5)),
-            (4, Command::Goto(4)),
-            (5, Command::Stop),
+            (1, Plain::Free(X)),
+            (2, Plain::New(1, 1)),
+            (3, Plain::IfEq(X, Y, 5)),
+            (4, Plain::Goto(4)),
+            (5, Plain::Stop),
         ],
         State(1, &[1, 0], 1, &[7]),
         9,

@@ -1,10 +1,11 @@
 // A part of the heap that a program is not to need.
-ghost use Rattle.std.specs.Prelude.{◌≡◌, ◌<◌, IfOk, List, length};
+ghost use Rattle.std.specs.Prelude.{◌≡◌, ◌<◌, IfOk, List, length, false};
 ghost use Rattle.heap_formula.specs.declared.commands.Command.{Command};
 ghost use Rattle.heap_formula.specs.declared.judgements.Judgement.TheVariants.{Term as Runs};
 ghost use Rattle.heap_formula.specs.Definitions.{Definition};
 ghost use Rattle.heap_formula.specs.Judgements.{IsLocallySound};
 ghost use Rattle.heap_formula.specs.Positions.{kept_pairs};
+ghost use Rattle.heap_formula.specs.Programs.{has_ends};
 ghost use Rattle.rule_table.specs.Answer.{one};
 ghost use Rattle.rule_table.specs.Answered.{IsAnswer};
 ghost use Rattle.rule_table.specs.Table.{without_spatial, drop_answer};
@@ -42,7 +43,8 @@ fn drop_atom(alloc: Global, judgement: &Judgement, k: u32) -> Result<Vec<Premise
     Ok(dropped(alloc, *line, a, k as usize)?)
 }
 
-/// The judgement on a program's runs without spatial atom `k` of its symbolic state, counted from 0.
+/// The judgement on a program's runs without spatial atom `k` of its symbolic state, counted from 0. It is sound where
+/// the program has no end: what is dropped would be missed there.
 pub fn premises_drop(
     alloc: Global,
     judgement: &Judgement,
@@ -50,7 +52,7 @@ pub fn premises_drop(
     k: u32,
 ) -> Result<Vec<Premise>, RuleError>
     ensures answer { IsAnswer result (drop_answer judgement.now k) }
-    ensures sound { IfOk result (λ v. (ds : List Definition) (lines : List Command)
+    ensures sound { IfOk result (λ v. (ds : List Definition) (lines : List Command) → has_ends lines ≡ false
         → IsLocallySound ds lines judgement.now v.items) }
 {
     drop_atom(alloc, judgement, k)

@@ -4,7 +4,6 @@ use Rattle.std.proofs.Common.{Bool, true, false, ◌&&◌, nat_eq, length, get_o
 use Rattle.std.proofs.Common.{bit_and}
 use Rattle.std.specs.Prelude.{if◌then◌else◌, slice_index, count_ones}
 use Rattle.std.specs.Int.{bit_at, w64, trailing_zeros}
-use Rattle.std.specs.List.{list_any}
 use Rattle.std.specs.Simd.Lanes.{mask_l}
 use Rattle.std.specs.Cmp.Lexicographic.{pointwise}
 use Rattle.std.proofs.lemmas.Simd.{mask_l-lt}
@@ -18,9 +17,9 @@ use Rattle.cyc_basics.specs.Bits.{is_one}
 use Rattle.cyc_basics.proofs.Tests.{pointwise_self}
 use Rattle.pair_family.specs.Combination.{upto, pairs_below}
 use Rattle.pair_family.specs.Equality.{two_eq, two_refl, pairs_decide, pair_weight, pairs_digest_from, pairs_digest}
-use Rattle.pair_family.specs.Labels.{row, has_same, has_difference, is_between_labels, AreNear, AreSmall}
+use Rattle.pair_family.specs.Labels.{row, has_same, has_difference, AreNear, AreSmall}
 use Rattle.pair_family.specs.Masks.{picked, pairs_in}
-use Rattle.pair_family.proofs.Masks.{picked_filter, picked_first, picked_none, one_of_mask}
+use Rattle.pair_family.proofs.Masks.{picked_filter, picked_first, one_of_mask}
 
 -- ---- masks of lists of answers
 

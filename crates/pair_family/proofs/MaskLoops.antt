@@ -1,10 +1,10 @@
 -- Turns of the loops over the pairs of a mask, of which the first is taken.
 use Rattle.std.proofs.Common.{◌≡◌, ℕ, ◌+◌, ◌<◌, ◌≤◌, List, [], ◌∷◌, ◌++◌, map, Bool, true, false, ◌&&◌, drop, get_or, length}
-use Rattle.std.proofs.Common.{refl, sym, ap, ◌∙◌, subst}
+use Rattle.std.proofs.Common.{sym, ap, ◌∙◌, subst}
 use Rattle.std.specs.Prelude.{slice_index}
 use Rattle.std.specs.Cmp.Lexicographic.{pointwise}
 use Rattle.std.proofs.lemmas.List.{drop_more, drop_all}
-use Rattle.pair_family.specs.Equality.{two_eq, two_refl}
+use Rattle.pair_family.specs.Equality.{two_eq}
 use Rattle.pair_family.specs.Labels.{joined_labels, relabelled, pairs_at, label_pairs}
 use Rattle.pair_family.proofs.ByAtom.{append_three}
 

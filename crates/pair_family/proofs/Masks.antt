@@ -1,13 +1,12 @@
 -- Masks: the entries at the ones of a mask.
-use Rattle.std.proofs.Common.{◌≡◌, ◌≢◌, ℕ, zero, suc, ◌+◌, ◌*◌, ◌<◌, ◌≤◌, ◌^◌, ◌/◌, ◌%◌, List, [], ◌∷◌, ◌++◌, map, filter, arith}
-use Rattle.std.proofs.Common.{Bool, true, false, nat_eq, length, get_or, take, refl, sym, ap, ◌∙◌, inl, inr, subst}
+use Rattle.std.proofs.Common.{◌≡◌, ◌≢◌, ℕ, zero, suc, ◌+◌, ◌<◌, List, [], ◌∷◌, ◌++◌, map, filter, arith}
+use Rattle.std.proofs.Common.{Bool, true, false, nat_eq, length, get_or, refl, sym, ap, ◌∙◌, inl, inr}
 use Rattle.std.specs.Prelude.{if◌then◌else◌}
 use Rattle.std.specs.Simd.Lanes.{mask_l}
 use Rattle.std.proofs.lemmas.Simd.{bit_mask_l}
 use Rattle.std.proofs.lemmas.Bool.{cases_Bool}
 use Rattle.cyc_basics.specs.Bits.{is_one}
-use Rattle.pair_family.specs.Combination.{upto, pairs_below}
-use Rattle.pair_family.specs.Masks.{picked, pairs_in}
+use Rattle.pair_family.specs.Masks.{picked}
 
 pub one_of_mask : (ms : List Bool) (k : ℕ) → is_one (mask_l ms) k ≡ get_or ms k false
 one_of_mask ms k =

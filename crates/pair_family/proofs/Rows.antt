@@ -1,13 +1,14 @@
 -- The pairs below n, row by row and pair by pair.
-use Rattle.std.proofs.Common.{◌≡◌, inl, inr, ℕ, suc, ◌+◌, List, [], ◌∷◌, ◌++◌, map, filter, Bool, true, false, ◌||◌}
+use Rattle.std.proofs.Common.{◌≡◌, inl, inr, ℕ, zero, suc, ◌+◌, ◌<◌, ◌≤◌, List, [], ◌∷◌, ◌++◌, map, filter, take}
+use Rattle.std.proofs.Common.{length, get_or, Bool, true, false, ◌||◌}
 use Rattle.std.proofs.Common.{◌&&◌, arith, sym, refl, ap, ◌∙◌}
 use Rattle.std.specs.Prelude.{if◌then◌else◌, nat_eq, slice_index}
 use Rattle.std.proofs.lemmas.Bool.{cases_Bool, eqb-true}
 use Rattle.pair_family.specs.Combination.{upto, pairs_below}
 use Rattle.pair_family.specs.Labels.{relabelled, row, has_same, neighbours, has_difference, is_between_labels}
-use Rattle.pair_family.specs.Labels.{joined_labels, label_pairs}
+use Rattle.pair_family.specs.Labels.{joined_labels, label_pairs, labels_at}
 use Rattle.pair_family.proofs.ByAtom.{append_three}
-use Rattle.std.proofs.lemmas.List.{map-append}
+use Rattle.std.proofs.lemmas.List.{map-append, take_more}
 use Rattle.std.specs.List.{list_any}
 use Rattle.std.proofs.lemmas.List.Folds.{list_any-append}
 use Rattle.std.proofs.Math.Bool.{or-false}
@@ -124,3 +125,29 @@ joined_append labels (q ∷ qs) rs = joined_append (map (relabelled (slice_index
 pub label_pairs_append : (labels : List ℕ) (qs rs : List (ℕ × ℕ))
     → label_pairs labels (qs ++ rs) ≡ label_pairs labels qs ++ label_pairs labels rs
 label_pairs_append labels qs rs = map-append (λ q. (slice_index labels q.0, slice_index labels q.1)) qs rs
+
+-- one more of the first numbers
+pub first_next : (ns : List ℕ) (i n : ℕ) → i < length ns → n ≡ get_or ns i n → take i ns ≡ upto i → n ≡ i
+    → take (i + 1) ns ≡ upto (i + 1)
+first_next ns i n l r a e =
+    let s : suc i ≡ i + 1 = omega arith in
+    let here : get_or ns i n ≡ i = sym r ∙ e in
+    take_more ns i n l ∙ (λ j. a j ++ (here j ∷ [])) ∙ ap upto s
+
+-- the first numbers have the first labels
+take_read : (labels : List ℕ) (n : ℕ) → n < length labels
+    → take (suc n) labels ≡ take n labels ++ (slice_index labels n ∷ [])
+take_read [] n l = absurd (omega arith)
+take_read (x ∷ labels) zero l = refl
+take_read (x ∷ labels) (suc n) l = ap (λ z. x ∷ z) (take_read labels n (omega arith))
+
+labels_upto : (labels : List ℕ) (n : ℕ) → n ≤ length labels → labels_at labels (upto n) ≡ take n labels
+labels_upto labels zero l = refl
+labels_upto labels (suc n) l =
+    map-append (slice_index labels) (upto n) (n ∷ [])
+    ∙ (ap (λ z. z ++ (slice_index labels n ∷ [])) (labels_upto labels n (omega arith))
+    ∙ sym (take_read labels n (omega arith)))
+
+pub labels_first : (labels ns : List ℕ) → ns ≡ upto (length ns) → length ns ≤ length labels
+    → take (length ns) labels ≡ labels_at labels ns
+labels_first labels ns e l = sym (ap (labels_at labels) e ∙ labels_upto labels (length ns) l)

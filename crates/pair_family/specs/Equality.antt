@@ -1,5 +1,5 @@
 -- What `==` computes of two base pairs.
-use Rattle.std.specs.Prelude.{◌≡◌, ℕ, Bool, true, ◌++◌, ◌&&◌, ◌+◌, ◌*◌, ◌%◌, ◌^◌, ◌-◌, ◌/◌, List, [], ◌∷◌, nat_eq, refl}
+use Rattle.std.specs.Prelude.{◌≡◌, ℕ, Bool, true, ◌&&◌, ◌+◌, ◌*◌, ◌%◌, ◌^◌, ◌-◌, ◌/◌, List, [], ◌∷◌, nat_eq, refl}
 use Rattle.std.specs.Prelude.{nat_lt, if◌then◌else◌}
 use Rattle.std.proofs.Common.{subst, ap}
 use Rattle.std.proofs.lemmas.Bool.{and_parts, and_from, eqb-true, eq-eqb}
@@ -89,8 +89,8 @@ abbrev pub pairs_digest : List (ℕ × ℕ) → ℕ
 pairs_digest qs = pairs_digest_from 0 qs
 
 abbrev pub base_pair_writes : BasePair → HashWrites
-base_pair_writes b = fed.u64 (pairs_digest b.same)
-    ++ (fed.u64 (pairs_digest b.differ) ++ fed.u64 (numbers_digest b.cells))
+base_pair_writes b = fed.u64 (with_number (with_number (with_number 0 (pairs_digest b.same)) (pairs_digest b.differ))
+    (numbers_digest b.cells))
 
 pub base_pair_alike : (a b : BasePair) → base_pair_eq a b ≡ true → base_pair_writes a ≡ base_pair_writes b
 base_pair_alike a b h = ap base_pair_writes (pair_same a b h)

@@ -18,13 +18,14 @@ use Rattle.heap_syntax.proofs.WordTexts.{nil-word, pred-word, or-word, last-word
 use Rattle.heap_syntax.proofs.WordTexts.{from-word, given-word, goal-word}
 use Rattle.heap_syntax.proofs.HeapEnds.{listed-inner, fields-inner, arguments-inner, heap-inner, heaps-inner}
 use Rattle.heap_syntax.proofs.CommandLaws.{lines-inner}
-use Rattle.problem_syntax.specs.Trees.{Heap, Line, Definition, Goal}
+use Rattle.heap_syntax.proofs.EndLaws.{ends-inner}
+use Rattle.problem_syntax.specs.Trees.{Heap}
 use Rattle.problem_syntax.specs.Grammar.{problem_word, option_words, option, is_false, no_prime, forget, primes}
 use Rattle.problem_syntax.specs.Grammar.{to_named, from_named, term, terms, Atoms, to_spatial, from_spatial}
 use Rattle.problem_syntax.specs.Grammar.{behind_address, behind_name, spatial, heap, parameters, cases, to_definition}
 use Rattle.problem_syntax.specs.Grammar.{from_definition, definition, to_goal, from_goal, disjuncts, state, entailment}
 use Rattle.problem_syntax.specs.Grammar.{goal, definitions, lines, to_problem, from_problem, last_part, contents, body}
-use Rattle.problem_syntax.specs.Grammar.{problem}
+use Rattle.problem_syntax.specs.Grammar.{ends, Contents, problem}
 
 -- ---- terms and spatial atoms
 
@@ -97,11 +98,13 @@ unfolding definitions
 contents-inner v =
     after-inner semicolon _ syms.semicolon_word (seq-inner _ _
     (many-inner (is_one pred_word) definition definition-inner)
-    (seq-inner (lines v) last_part (lines-inner v (one free_name) (name-inner reserved)) last_part-inner))
+    (seq-inner (lines v) _ (lines-inner v (one free_name) (name-inner reserved))
+    (seq-inner (ends v) last_part (ends-inner (terms true) (spatial true) v (term-inner true) (spatial-inner true))
+    last_part-inner)))
 
 body-inner : Inner body
 unfolding body
-body-inner = shaped-inner {A = (v : Version) × (List Definition × (List Line × Goal))} to_problem from_problem Any _
+body-inner = shaped-inner {A = (v : Version) × Contents} to_problem from_problem Any _
     (after-inner cyclist_word _ cyclist-word (after-inner problem_word _ (letters-name (codes "problem") refl)
     (headed-inner version contents version-word contents-inner)))
 

@@ -4,7 +4,7 @@ use Rattle.std.proofs.Common.{Err, refl, sym, subst, inl, inr, ◌⊎◌}
 use Rattle.std.specs.Prelude.{codes}
 use Rattle.cyc_lex.specs.Word.{Word}
 use Rattle.cyc_lex.proofs.Letters.{letters-name}
-use Rattle.cyc_grammar.specs.Syntax.{◌>>=◌, read_one, Class, one, seq, after, before, is_one}
+use Rattle.cyc_grammar.specs.Syntax.{Syntax, ◌>>=◌, read_one, Class, one, seq, after, before, is_one}
 use Rattle.cyc_grammar.specs.Classes.{the_end, number, is_free_name}
 use Rattle.cyc_grammar.proofs.Laws.{Lawful, Faults, Stops, Begins, BeginsNot, BeginsNot-append, ClassLaw, ok_is, differ}
 use Rattle.cyc_grammar.proofs.Laws.{one-law, seq-law, shaped-law, alt-law, many-law, after-law, before-law, nothing-law}
@@ -20,10 +20,14 @@ use Rattle.heap_syntax.proofs.HeapLaws.{listed-not, fields-law, fields-closed, a
 use Rattle.heap_syntax.proofs.HeapLaws.{free_name-law, nil-no-name, emp-reserved, heap-law, heap-end, heap-not}
 use Rattle.heap_syntax.proofs.HeapLaws.{heaps-law}
 use Rattle.heap_syntax.specs.LineGrammar as commands
+use Rattle.heap_syntax.specs.EndGrammar as endings
+use Rattle.heap_syntax.specs.EndGrammar.{ends_word}
+use Rattle.heap_syntax.proofs.EndLaws.{ends-law, ends-end}
 use Rattle.heap_syntax.proofs.CommandLaws.{VariableLaw, lines-law, lines-end}
 use Rattle.problem_syntax.specs.Trees.{Named, Nil, Plain, Primed, Spatial, Heap, Line, Definition, Goal, Entailment}
-use Rattle.problem_syntax.specs.Trees.{From}
+use Rattle.problem_syntax.specs.Trees.{From, End}
 use Rattle.heap_syntax.specs.declared.version.Version.{Version}
+use Rattle.heap_syntax.specs.declared.version.Version.TheVariants.{One, Two, Three}
 use Rattle.heap_syntax.specs.Versions.{version}
 use Rattle.heap_syntax.proofs.WordTexts.{version-law}
 use Rattle.problem_syntax.specs.Grammar.{option_words, option_more, option, is_false, no_prime, forget, primes}
@@ -31,7 +35,7 @@ use Rattle.problem_syntax.specs.Grammar.{to_named, from_named, term, terms, Atom
 use Rattle.problem_syntax.specs.Grammar.{behind_address, behind_name, spatial, heap, parameters, cases, to_definition}
 use Rattle.problem_syntax.specs.Grammar.{from_definition, definition, to_goal, from_goal, disjuncts, state, entailment}
 use Rattle.problem_syntax.specs.Grammar.{goal, definitions, lines, to_problem, from_problem, last_part, contents, body}
-use Rattle.problem_syntax.specs.Grammar.{problem}
+use Rattle.problem_syntax.specs.Grammar.{ends, Contents, problem}
 
 -- ---- a word or nothing
 
@@ -370,29 +374,51 @@ last_part-law = after-law goal_word _ (keyword-law _)
 
 -- ---- problems
 
-rest-apart : (v : Version) (ls : List Line) (g : Goal) (r : List Word)
-    → Stops ((lines v).more ls) (last_part.words g ++ r)
-unfolding last_part
-rest-apart v ls g r = lines-end v (one free_name) (goal_word.word tt) refl ls
+-- the ends, and what stands after them
+abbrev behind_lines : Version → Syntax (List End × Goal)
+behind_lines v = seq (ends v) last_part
 
-definitions-apart : (v : Version) (ds : List Definition) (ls : List Line) (g : Goal) (r : List Word)
-    → Stops (definitions.more ds) ((seq (lines v) last_part).words (ls, g) ++ r)
-unfolding last_part commands.lines commands.line
-definitions-apart v ds [] g r = definitions-end (goal_word.word tt) refl ds
-definitions-apart v ds (l ∷ ls) g r = definitions-end (commands.line_word.word tt) refl ds
+goal-apart : (v : Version) (es : List End) (g : Goal) (r : List Word)
+    → Stops ((ends v).more es) (last_part.words g ++ r)
+unfolding last_part
+goal-apart v es g r = ends-end (terms true) (spatial true) v (goal_word.word tt) refl es
+
+-- what goes on neither at the word "ends" nor at "goal" stops before ends and a goal
+stops-behind : (v : Version) (more : Word → Bool) (es : List End) (g : Goal) (r : List Word)
+    → more (ends_word.word tt) ≡ false → more (goal_word.word tt) ≡ false
+    → Stops more ((behind_lines v).words (es, g) ++ r)
+unfolding last_part endings.ends endings.end
+stops-behind One more es g r h k = k
+stops-behind Two more es g r h k = k
+stops-behind Three more [] g r h k = k
+stops-behind Three more (e ∷ es) g r h k = h
+
+rest-apart : (v : Version) (ls : List Line) (es : List End) (g : Goal) (r : List Word)
+    → Stops ((lines v).more ls) ((behind_lines v).words (es, g) ++ r)
+rest-apart v ls es g r = stops-behind v ((lines v).more ls) es g r
+    (lines-end v (one free_name) (ends_word.word tt) refl ls) (lines-end v (one free_name) (goal_word.word tt) refl ls)
+
+definitions-apart : (v : Version) (ds : List Definition) (ls : List Line) (es : List End) (g : Goal) (r : List Word)
+    → Stops (definitions.more ds) ((seq (lines v) (behind_lines v)).words (ls, (es, g)) ++ r)
+unfolding commands.lines commands.line
+definitions-apart v ds [] es g r = stops-behind v (definitions.more ds) es g r
+    (definitions-end (ends_word.word tt) refl ds) (definitions-end (goal_word.word tt) refl ds)
+definitions-apart v ds (l ∷ ls) es g r = definitions-end (commands.line_word.word tt) refl ds
 
 contents-law : (v : Version) → Lawful (contents v)
 contents-law v =
     after-law semicolon _ (symbol-law _)
-    (seq-law definitions (seq (lines v) last_part) definitions-law
-    (seq-law (lines v) last_part (lines-law v (one free_name) free_variables) last_part-law
-    (λ ls g r fls fg h. rest-apart v ls g r))
-    (λ ds p r fx fy h. definitions-apart v ds p.0 p.1 r))
+    (seq-law definitions (seq (lines v) (behind_lines v)) definitions-law
+    (seq-law (lines v) (behind_lines v) (lines-law v (one free_name) free_variables)
+    (seq-law (ends v) last_part (ends-law (terms true) (spatial true) v (terms-all true) (atoms-all true)) last_part-law
+    (λ es g r fes fg h. goal-apart v es g r))
+    (λ ls p r fls fp h. rest-apart v ls p.0 p.1 r))
+    (λ ds p r fx fy h. definitions-apart v ds p.0 p.1.0 p.1.1 r))
 
 body-law : Lawful body
 unfolding body
 body-law =
-    shaped-law {A = (v : Version) × (List Definition × (List Line × Goal))} to_problem from_problem Any _
+    shaped-law {A = (v : Version) × Contents} to_problem from_problem Any _
     (λ x f. (refl, tt)) (λ p h. refl)
     (after-law _ _ (keyword-law _) (after-law _ _ (keyword-law _)
     (headed-law version contents version-law contents-law)))

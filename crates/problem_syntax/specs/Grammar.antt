@@ -14,8 +14,9 @@ use Rattle.heap_syntax.specs.Grammar as shared
 use Rattle.heap_syntax.specs.Grammar.{Any, Terms, listed, fields, arguments}
 use Rattle.heap_syntax.specs.Trees.{Cell, Predicate}
 use Rattle.heap_syntax.specs.LineGrammar as commands
-use Rattle.problem_syntax.specs.Trees.{Named, Nil, Plain, Primed, Spatial, Heap, Line, Definition, Goal, Entailment}
-use Rattle.problem_syntax.specs.Trees.{From, Problem}
+use Rattle.heap_syntax.specs.EndGrammar as endings
+use Rattle.problem_syntax.specs.Trees.{Named, Nil, Plain, Primed, Spatial, Heap, Line, End, Definition, Goal}
+use Rattle.problem_syntax.specs.Trees.{Entailment, From, Problem}
 
 -- ---- words
 
@@ -147,7 +148,8 @@ entailment = seq (heap true) (after turnstile disjuncts)
 unfoldable pub goal : Syntax Goal
 goal = shaped {A = (ℕ × Heap) ⊎ (Heap × List Heap)} to_goal from_goal Any (alt (is_one from_word) state entailment)
 
--- ---- problem = "cyclist" "problem" ( "1" | "2" ) ";" { pred } { line } "goal" goal "end" ";", and the end of the text
+-- ---- problem = "cyclist" "problem" ( "1" | "2" | "3" ) ";" { pred } { line } { end } "goal" goal "end" ";", and the
+-- end of the text
 
 unfoldable pub definitions : Syntax (List Definition)
 definitions = many (is_one pred_word) definition
@@ -155,22 +157,29 @@ definitions = many (is_one pred_word) definition
 abbrev pub lines : Version → Syntax (List Line)
 lines v = commands.lines v (one free_name)
 
-abbrev pub to_problem : (v : Version) × (List Definition × (List Line × Goal)) → Problem
-to_problem p = record { version = p.0; definitions = p.1.0; lines = p.1.1.0; goal = p.1.1.1 }
+abbrev pub ends : Version → Syntax (List End)
+ends v = endings.ends v (terms true) (spatial true)
 
-abbrev pub from_problem : Problem → (v : Version) × (List Definition × (List Line × Goal))
-from_problem p = (p.version, (p.definitions, (p.lines, p.goal)))
+-- what stands after the version
+abbrev pub Contents : Type 0
+Contents = List Definition × (List Line × (List End × Goal))
+
+abbrev pub to_problem : (v : Version) × Contents → Problem
+to_problem p =
+    record { version = p.0; definitions = p.1.0; lines = p.1.1.0; ends = p.1.1.1.0; goal = p.1.1.1.1 }
+
+abbrev pub from_problem : Problem → (v : Version) × Contents
+from_problem p = (p.version, (p.definitions, (p.lines, (p.ends, p.goal))))
 
 -- the goal statement and the last one
 unfoldable pub last_part : Syntax Goal
 last_part = after goal_word (before (before goal last_word) semicolon)
 
--- what stands after the version
-abbrev pub contents : Version → Syntax (List Definition × (List Line × Goal))
-contents v = after semicolon (seq definitions (seq (lines v) last_part))
+abbrev pub contents : Version → Syntax Contents
+contents v = after semicolon (seq definitions (seq (lines v) (seq (ends v) last_part)))
 
 unfoldable pub body : Syntax Problem
-body = shaped {A = (v : Version) × (List Definition × (List Line × Goal))} to_problem from_problem Any
+body = shaped {A = (v : Version) × Contents} to_problem from_problem Any
     (after cyclist_word (after problem_word (headed version contents)))
 
 unfoldable pub problem : Syntax Problem

@@ -1,7 +1,8 @@
 -- Numbered trees without where they lie in memory.
 use Rattle.std.specs.Prelude.{ℕ, List, map}
 use Rattle.heap_syntax.specs.Trees as heaps
-pub use Rattle.heap_reader.specs.Trees.{spatial_of, heap_of}
+use Rattle.heap_syntax.specs.EndTrees as ends
+pub use Rattle.heap_reader.specs.Trees.{spatial_of, heap_of, end_of}
 use Rattle.heap_syntax.specs.declared.version.Version.{Version}
 use Rattle.heap_syntax.specs.declared.lines.tree.LineTree.{LineTree}
 use Rattle.problem_syntax.specs.Trees.{text_of}
@@ -20,6 +21,9 @@ Heap = heaps.Heap NumberedTerm
 abbrev pub Line : Type 0
 Line = LineTree ℕ
 
+abbrev pub End : Type 0
+End = ends.End NumberedTerm
+
 pub record Definition : Type 0 where
   pub name : List ℕ
   pub parameters : List (List ℕ)
@@ -33,6 +37,7 @@ pub record Problem : Type 0 where
   pub version : Version
   pub definitions : List Definition
   pub lines : List Line
+  pub ends : List End
   pub goal : Goal
 
 -- ---- what a contract sees of the code's trees
@@ -53,5 +58,6 @@ problem_of p = record {
   version = p.version;
   definitions = map definition_of p.definitions.items;
   lines = p.lines.items;
+  ends = map end_of p.ends.items;
   goal = goal_of p.goal;
 }

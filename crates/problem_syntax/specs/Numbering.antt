@@ -9,7 +9,8 @@ use Rattle.problem_syntax.specs.declared.numbering.tree.NumberedTerm.TheVariants
 use Rattle.problem_syntax.specs.declared.numbering.tree.NumberedTerm.TheVariants.{Existential}
 use Rattle.problem_syntax.specs.Names.{Name, has, firsts, place_of}
 use Rattle.problem_syntax.specs.Occurrences.{plain, primed, heap_names, primed_names, program_names, goal_names}
-use Rattle.problem_syntax.specs.Numbered.{Spatial, Heap, Line, Definition, Goal, Entailment, From, Problem}
+use Rattle.problem_syntax.specs.Numbered.{Spatial, Heap, Line, End, Definition, Goal, Entailment, From}
+use Rattle.problem_syntax.specs.Numbered.{Problem}
 
 -- the names that number a heap: a case has parameters and locals, an antecedent universal variables alone, and a
 -- disjunct existential ones too
@@ -59,7 +60,7 @@ abbrev pub definition : named.Definition → Definition
 definition d =
     record { name = d.name; parameters = d.parameters; cases = map (case (parameter_names d)) d.cases }
 
--- ---- programs
+-- ---- lines
 
 -- the number of the variable with this text, which has no prime
 abbrev pub variable_in : List Name → List ℕ → ℕ
@@ -68,10 +69,13 @@ variable_in variables s = place_of variables (plain s)
 abbrev pub line : List Name → named.Line → Line
 line variables l = lines.line_of (variable_in variables) l
 
--- ---- goals: each disjunct has existential variables of its own
+-- ---- ends and goals: each disjunct has existential variables of its own
 
 unfoldable pub disjunct : List Name → named.Heap → Heap
 disjunct universals h = heap (Disjunct universals (firsts (primed_names h))) h
+
+abbrev pub end : List Name → named.End → End
+end variables e = record { number = e.number; disjuncts = map (disjunct variables) e.disjuncts }
 
 abbrev pub goal : List Name → named.Goal → Goal
 goal universals (named.Entailment h ds) = Entailment (heap (Antecedent universals) h) (map (disjunct universals) ds)
@@ -79,17 +83,18 @@ goal universals (named.From n h) = From n (heap (Antecedent universals) h)
 
 -- ---- problems: the goal's universal variables come after the program's variables
 
-abbrev pub program_variables : List named.Line → List Name
-program_variables ls = firsts (program_names ls)
+abbrev pub program_variables : named.Problem → List Name
+program_variables p = firsts (program_names p)
 
 abbrev pub universals : named.Problem → List Name
-universals p = firsts (program_names p.lines ++ goal_names p.goal)
+universals p = firsts (program_names p ++ goal_names p.goal)
 
 abbrev pub numbered : named.Problem → Problem
 numbered p =
     record {
       version = p.version;
       definitions = map definition p.definitions;
-      lines = map (line (program_variables p.lines)) p.lines;
+      lines = map (line (program_variables p)) p.lines;
+      ends = map (end (program_variables p)) p.ends;
       goal = goal (universals p) p.goal;
     }

@@ -1,4 +1,4 @@
--- The names of heaps and of lines, in the order of the text.
+-- The names of heaps and of programs, in the order of the text.
 use Rattle.std.specs.Prelude.{ℕ, not, true, false, List, [], ◌∷◌, ◌++◌, filter}
 use Rattle.std.specs.List.{flat_map}
 use Rattle.heap_syntax.specs.declared.tree.PureTree.{PureTree}
@@ -10,7 +10,8 @@ use Rattle.heap_syntax.specs.declared.lines.tree.ChangeTree.TheVariants.{New, As
 use Rattle.heap_syntax.specs.declared.lines.tree.CommandTree.{CommandTree}
 use Rattle.heap_syntax.specs.declared.lines.tree.CommandTree.TheVariants.{Stop, Goto, Free, IfAny, If, StoreAtNil}
 use Rattle.heap_syntax.specs.declared.lines.tree.CommandTree.TheVariants.{Change}
-use Rattle.problem_syntax.specs.Trees.{Named, Nil, Plain, Primed, Spatial, Heap, Line, Goal, Entailment, From}
+use Rattle.problem_syntax.specs.Trees.{Named, Nil, Plain, Primed, Spatial, Heap, Line, End, Goal, Entailment, From}
+use Rattle.problem_syntax.specs.Trees.{Problem}
 use Rattle.problem_syntax.specs.Names.{Name}
 
 abbrev pub plain : List ℕ → Name
@@ -67,8 +68,21 @@ command_names (Change s c) = plain s ∷ change_names c
 abbrev pub line_names : Line → List Name
 line_names l = command_names l.command
 
-abbrev pub program_names : List Line → List Name
-program_names ls = flat_map line_names ls
+abbrev pub lines_names : List Line → List Name
+lines_names ls = flat_map line_names ls
+
+-- ---- ends: a primed name belongs to its disjunct alone
+
+abbrev pub end_names : End → List Name
+end_names e = flat_map plain_names e.disjuncts
+
+abbrev pub ends_names : List End → List Name
+ends_names es = flat_map end_names es
+
+-- ---- programs: lines before ends
+
+abbrev pub program_names : Problem → List Name
+program_names p = lines_names p.lines ++ ends_names p.ends
 
 -- ---- goals: the universal variables, those of the antecedent first; there a primed name is one too
 

@@ -5,6 +5,8 @@ use Rattle.heap_syntax.specs.Trees as heaps
 use Rattle.heap_syntax.specs.declared.version.Version.{Version}
 use Rattle.heap_syntax.specs.declared.lines.tree.LineTree.{LineTree}
 use Rattle.heap_syntax.specs.LineTrees as commands
+use Rattle.heap_syntax.specs.EndTrees as ends
+use Rattle.heap_syntax.specs.declared.ends.tree.EndTree.{EndTree}
 use Rattle.problem_syntax.specs.declared.tree.NameTree.{NameTree}
 use Rattle.problem_syntax.specs.declared.tree.NameTree.TheVariants as names
 use Rattle.problem_syntax.specs.declared.tree.DefinitionTree.{DefinitionTree}
@@ -28,6 +30,9 @@ Heap = heaps.Heap Named
 abbrev pub Line : Type 0
 Line = LineTree (List ℕ)
 
+abbrev pub End : Type 0
+End = ends.End Named
+
 pub record Definition : Type 0 where
   pub name : List ℕ
   pub parameters : List (List ℕ)
@@ -41,6 +46,7 @@ pub record Problem : Type 0 where
   pub version : Version
   pub definitions : List Definition
   pub lines : List Line
+  pub ends : List End
   pub goal : Goal
 
 -- ---- what a contract sees of the code's trees
@@ -59,6 +65,9 @@ heap_of h = heaps.heap_of named_of h
 abbrev pub line_of : LineTree (Bor (List ℕ)) → Line
 line_of l = commands.line_of text_of l
 
+abbrev pub end_of : EndTree NameTree → End
+end_of e = ends.end_of named_of e
+
 abbrev pub definition_of : DefinitionTree → Definition
 definition_of d = record {
   name = d.name.now;
@@ -75,5 +84,6 @@ problem_of p = record {
   version = p.version;
   definitions = map definition_of p.definitions.items;
   lines = map line_of p.lines.items;
+  ends = map end_of p.ends.items;
   goal = goal_of p.goal;
 }

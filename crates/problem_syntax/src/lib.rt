@@ -9,4 +9,4 @@ mod read_problem;
 mod tree;
 
 pub use read_problem::read_problem_tree;
-pub use tree::{DefinitionTree, GoalTree, HeapTree, LineTree, NameTree, ProblemTree};
+pub use tree::{DefinitionTree, EndTree, GoalTree, HeapTree, LineTree, NameTree, ProblemTree};

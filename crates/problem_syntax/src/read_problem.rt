@@ -6,12 +6,12 @@ ghost use Rattle.cyc_grammar.specs.Syntax.{read_whole};
 ghost use Rattle.cyc_grammar.specs.Classes.{are_tokens};
 ghost use Rattle.cyc_grammar.specs.Faults.{Reads, IsRead};
 ghost use Rattle.cyc_grammar.specs.Giving.{Gives, words};
-ghost use Rattle.problem_syntax.specs.Grammar.{heap, lines, state, entailment, goal, last_part, body, problem};
-ghost use Rattle.problem_syntax.specs.Trees.{Problem, heap_of, line_of, goal_of, problem_of};
+ghost use Rattle.problem_syntax.specs.Grammar.{heap, lines, ends, state, entailment, goal, last_part, body, problem};
+ghost use Rattle.problem_syntax.specs.Trees.{Problem, heap_of, line_of, end_of, goal_of, problem_of};
 
 use crate::form::{NameForm, NameVariables};
 use crate::read_definitions::definitions;
-use crate::tree::{GoalTree, HeapTree, LineTree, ProblemTree};
+use crate::tree::{EndTree, GoalTree, HeapTree, LineTree, ProblemTree};
 use cyc_grammar::{Cursor, Refusal, read_fault};
 use cyc_lex::{ReadFault, Token, Tokens};
 use heap_syntax::{Mark, Version, heaps, read_version};
@@ -90,6 +90,16 @@ fn lines<'a>(
     heap_syntax::lines::lines(alloc, &NameVariables, version, cursor)
 }
 
+fn ends<'a>(
+    alloc: Global,
+    version: Version,
+    cursor: &mut Cursor<'_, 'a>,
+) -> Result<Vec<EndTree<'a>>, Refusal>
+    ensures { Gives (λ x. (map end_of x.items, cursor.new)) result ((ends version).read cursor.old) }
+{
+    heap_syntax::ends::ends(alloc, &NameForm { primed: true }, version, cursor)
+}
+
 #[tactic(auto, unfolding(crate::specs::Grammar::body))]
 fn body<'a>(alloc: Global, cursor: &mut Cursor<'_, 'a>) -> Result<ProblemTree<'a>, Refusal>
     ensures { Gives (λ x. (problem_of x, cursor.new)) result (body.read cursor.old) }
@@ -100,11 +110,13 @@ fn body<'a>(alloc: Global, cursor: &mut Cursor<'_, 'a>) -> Result<ProblemTree<'a
     cursor.symbol(";")?;
     let definitions = definitions(alloc, cursor)?;
     let lines = lines(alloc, version, cursor)?;
+    let ends = ends(alloc, version, cursor)?;
     let goal = last_part(alloc, cursor)?;
     Ok(ProblemTree {
         version,
         definitions,
         lines,
+        ends,
         goal,
     })
 }

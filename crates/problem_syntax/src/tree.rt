@@ -17,6 +17,9 @@ pub type HeapTree<'a> = heap_syntax::HeapTree<'a, NameTree<'a>>;
 /// A line of the program.
 pub type LineTree<'a> = heap_syntax::lines::LineTree<&'a str>;
 
+/// An end of the program.
+pub type EndTree<'a> = heap_syntax::ends::EndTree<'a, NameTree<'a>>;
+
 /// The definition of a predicate, which has at least one case; no name in the cases is primed.
 #[derive(Drop)]
 pub struct DefinitionTree<'a> {
@@ -40,5 +43,6 @@ pub struct ProblemTree<'a> {
     pub version: Version,
     pub definitions: Vec<DefinitionTree<'a>>,
     pub lines: Vec<LineTree<'a>>,
+    pub ends: Vec<EndTree<'a>>,
     pub goal: GoalTree<'a>,
 }

@@ -13,7 +13,7 @@ use Rattle.heap_formula.specs.declared.terms.Term.{Term}
 use Rattle.heap_formula.specs.declared.terms.Term.TheVariants.{Nil, Univ}
 use Rattle.heap_formula.specs.declared.commands.Command.{Command}
 use Rattle.heap_formula.specs.declared.commands.Command.TheVariants.{Assign, Load, Store, New, Free, IfEq, IfNeq, IfAny}
-use Rattle.heap_formula.specs.declared.commands.Command.TheVariants.{Goto, Stop}
+use Rattle.heap_formula.specs.declared.commands.Command.TheVariants.{Goto, Stop, Ends}
 use Rattle.heap_formula.specs.declared.judgements.Judgement.{Judgement}
 use Rattle.heap_formula.specs.declared.judgements.Judgement.TheVariants.{Entail, Term as Runs}
 use Rattle.heap_formula.specs.declared.judgements.Premise.{Premise}
@@ -159,6 +159,7 @@ module _ (most more : Limits) (le : AreWithin most more) where
   command_wide : (i : ℕ) (a : SymbolicHeap) (n : ℕ) (c : Command)
       → Widens most (command_answer most i a n c) (command_answer more i a n c)
   command_wide i a n Stop = same (Ok [])
+  command_wide i a n (Ends bs) = limited_wide (one (with_right a bs))
   command_wide i a n (IfAny j) = limited_wide (two (at_line j a a) (at_line (i + 1) a a))
   command_wide i a n (Goto j) = limited_wide (one (at_line j a a))
   command_wide i a n (IfEq t u j) = limited_wide (two (at_line j a (with_atom a (Eq t u)))

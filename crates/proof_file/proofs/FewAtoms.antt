@@ -1,5 +1,5 @@
 -- Each judgement of a file is within its version's limits.
-use Rattle.std.proofs.Common.{◌≡◌, ℕ, ◌+◌, ◌≤◌, true, List, [], ◌∷◌, length, map, None, Some, refl, arith}
+use Rattle.std.proofs.Common.{◌≡◌, ℕ, ◌+◌, true, List, [], ◌∷◌, length, map, None, Some, refl, arith}
 use Rattle.std.specs.Prelude.{◌||◌, nat_eq, nat_lt, nat_le, slice_get}
 use Rattle.std.proofs.lemmas.Bool.{le-leb, and_from as both_true}
 use Rattle.std.proofs.lemmas.List.{length-map}
@@ -14,7 +14,6 @@ use Rattle.rule_table.specs.Answer.{heaps_of, is_short}
 use Rattle.cyc_lex.specs.declared.fault.IllFault.TheVariants.{NoLine}
 use Rattle.cyc_lex.specs.declared.fault.What.TheVariants.{Disjuncts}
 use Rattle.heap_syntax.specs.Versions.{limits}
-use Rattle.proof_syntax.specs.Trees.{Heap}
 use Rattle.heap_reader.specs.Trees.{Heading}
 use Rattle.heap_reader.specs.Spans.{heap_span}
 use Rattle.heap_reader.specs.Flaws.{ill_if, heap_flaw, heaps_flaw}
@@ -69,6 +68,6 @@ node_is_few f v n at =
     let count = length tree.lines in
     let there = get_map (node_tree ds) f.nodes v n at in
     let found = flaw_at (node_flaw most hs count) node_span 0 (first_node tree) tree.nodes v (node_tree ds n) there
-    (file_parts tree f.flawless).2 in
+    (file_parts tree f.flawless).3 in
     judgement_is_few most ds hs count (found.0 + 1) n.judgement
     (node_parts most (most_fits f.version) hs count (0 + v) found.0 (node_tree ds n) found.1).1

@@ -16,12 +16,14 @@ use Rattle.heap_reader.specs.Spans.{heap_span}
 use Rattle.heap_reader.specs.Flaws.{ill_if, over_if, or_later, listed_flaw, heap_flaw, heaps_flaw}
 use Rattle.heap_reader.proofs.NoFlaw.{neither, not_over, at_most, below, each_of, few_all}
 use Rattle.heap_reader.proofs.Fitting.{most_fits, heaps_small}
-use Rattle.heap_reader.specs.declared.definitions.scope.Scope.TheVariants.{Outside as InNode}
+use Rattle.heap_reader.proofs.EndFitting.{HasDisjunct as EndHasDisjunct, ends_small}
+use Rattle.heap_reader.specs.EndFlaws.{stops_at}
+use Rattle.heap_reader.specs.declared.definitions.scope.Scope.TheVariants.{Outside as InNode, End as InEnd}
 use Rattle.heap_reader.proofs.DefinitionFitting.{term_small, outside_small, definitions_small}
 use Rattle.proof_file.specs.Spans.{term_span, definition_span, judgement_span, pair_span, node_span}
 use Rattle.proof_file.specs.Flaws.{heading, headings, term_flaw, variable_flaw, program_flaw, definition_flaw}
 use Rattle.proof_file.specs.Flaws.{entailment_flaw, judgement_flaw, pair_flaw, reason_flaw, node_flaw, first_line}
-use Rattle.proof_file.specs.Flaws.{first_node, nodes_flaw, file_flaw}
+use Rattle.proof_file.specs.Flaws.{first_end, first_node, file_ends_flaw, nodes_flaw, file_flaw}
 use Rattle.heap_reader.specs.LineValues.{variable_value}
 use Rattle.proof_file.specs.Values.{term_value}
 use Rattle.proof_file.specs.Small.{IsSmallEntailment, IsSmallJudgement, IsSmallPair, IsSmallReason, IsSmallNode}
@@ -124,17 +126,21 @@ module _ (most : Limits) (few : AreLimits most) (hs : List Heading) where
 -- what a file without a flaw has no flaw in
 pub file_parts : (f : File) → file_flaw f ≡ None → (listed_flaw
     (definition_flaw (limits f.version) (headings f.definitions)) definition_span 0 4 f.definitions ≡ None)
-    × (program_flaw (limits f.version) (first_line f) f.lines ≡ None) × (nodes_flaw f ≡ None)
+    × (program_flaw (limits f.version) (first_line f) f.lines ≡ None) × (file_ends_flaw f ≡ None)
+    × (nodes_flaw f ≡ None)
 file_parts f e =
     let definitions = listed_flaw (definition_flaw (limits f.version) (headings f.definitions))
     definition_span 0 4 f.definitions in
-    let a = neither definitions (or_later (program_flaw (limits f.version) (first_line f) f.lines) (nodes_flaw f)) e in
-    let b = neither (program_flaw (limits f.version) (first_line f) f.lines) (nodes_flaw f) a.1 in
-    (a.0, b.0, b.1)
+    let program = program_flaw (limits f.version) (first_line f) f.lines in
+    let a = neither definitions (or_later program (or_later (file_ends_flaw f) (nodes_flaw f))) e in
+    let b = neither program (or_later (file_ends_flaw f) (nodes_flaw f)) a.1 in
+    let c = neither (file_ends_flaw f) (nodes_flaw f) b.1 in
+    (a.0, b.0, c.0, c.1)
 
 -- a file without a flaw is small
-pub file_small : (f : File) → Each (λ (x : Node). HasDisjunct x.judgement) f.nodes → file_flaw f ≡ None → IsSmallFile f
-file_small f some e =
+pub file_small : (f : File) → Each EndHasDisjunct f.ends → Each (λ (x : Node). HasDisjunct x.judgement) f.nodes
+    → file_flaw f ≡ None → IsSmallFile f
+file_small f some_ends some e =
     let ds = f.definitions in
     let hs = headings ds in
     let most = limits f.version in
@@ -145,9 +151,11 @@ file_small f some e =
     record {
       definitions = small.0;
       few = small.1;
-      nodes = nodes_small most few hs count 0 (first_node f) f.nodes some parts.2;
+      ends = ends_small (term_flaw InEnd) term_span term_value (term_small InEnd tt) most few hs (stops_at f.lines) 0
+          (first_end f) f.ends some_ends parts.2;
+      nodes = nodes_small most few hs count 0 (first_node f) f.nodes some parts.3;
       nodes_few = few_all (node_flaw most hs count) node_span 20000
-          (λ n k x h. below 20000 n (node_parts most few hs count n k x h).0) (first_node f) f.nodes parts.2;
+          (λ n k x h. below 20000 n (node_parts most few hs count n k x h).0) (first_node f) f.nodes parts.3;
     }
 
 pub few_heads : (heads : List Heading) (f : File) → heads ≡ headings f.definitions → length f.definitions ≤ 4096

@@ -2,6 +2,7 @@ pub mod Fitting
 pub mod SpanLaws
 pub mod ReadableNodes
 pub mod WithinSpans
+pub mod LinesAgain
 mod TreesAgain
 pub mod Readings
 pub mod FewAtoms

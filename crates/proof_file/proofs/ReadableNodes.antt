@@ -1,14 +1,15 @@
 -- What the grammar lets through has universal variables alone where it must.
-use Rattle.std.proofs.Common.{◌≡◌, ℕ, suc, ◌+◌, ◌≤◌, Bool, true, false, ◌&&◌, List, [], ◌∷◌, map, length, None, refl}
+use Rattle.std.proofs.Common.{◌≡◌, ℕ, suc, ◌+◌, Bool, true, false, ◌&&◌, List, [], ◌∷◌, map, length, None, refl}
 use Rattle.std.proofs.Common.{arith}
 use Rattle.std.specs.List.{list_all}
 use Rattle.std.specs.Prelude.{◌||◌, nat_eq, nat_lt, nat_le}
-use Rattle.std.proofs.lemmas.Bool.{le-leb, lt-ltb, ltb-false, and_from as both_true}
+use Rattle.std.proofs.lemmas.Bool.{le-leb, lt-ltb, ltb-false, and_parts, and_from as both_true}
 use Rattle.std.proofs.lemmas.List.{length-map}
 use Rattle.cyc_basics.specs.Limits.{AreLimits}
 use Rattle.cyc_basics.specs.declared.limits.Limits.{Limits}
 use Rattle.cyc_basics.specs.declared.limits.TheConstants.{MOST_CASES}
 use Rattle.heap_formula.specs.declared.terms.Term.{Term}
+use Rattle.heap_formula.specs.declared.commands.Command.{Command}
 use Rattle.heap_formula.specs.Words.{Each}
 use Rattle.heap_formula.specs.Judgements.{antecedent}
 use Rattle.rule_table.specs.Tests.{is_universal, are_universal, is_universal_pure, is_universal_spatial}
@@ -36,6 +37,8 @@ use Rattle.heap_reader.specs.Trees.{Heading}
 use Rattle.heap_reader.specs.Flaws.{ill_if, listed_flaw, heap_flaw}
 use Rattle.heap_reader.specs.Values.{pure_value, spatial_value, heap_value}
 use Rattle.heap_reader.specs.LineValues.{operand_value, command_value, variable_value, program_value}
+use Rattle.heap_reader.specs.EndValues.{LineEnd, line_with_end, with_ends_behind, with_ends}
+use Rattle.heap_reader.proofs.EndLoops.{chosen}
 use Rattle.heap_reader.proofs.Fitting.{most_fits}
 use Rattle.heap_reader.proofs.NoFlaw.{neither, not_ill, positive}
 use Rattle.proof_file.proofs.Fitting.{node_parts, file_parts}
@@ -172,7 +175,7 @@ pub nodes_readable : (f : File) → file.fits f → are_readable (map (node_valu
 unfolding file body
 nodes_readable f fit =
     all_pass is_readable (node_value (headings f.definitions)) node.fits (readable_node (headings f.definitions))
-    f.nodes (nodes_fit f.nodes fit.1.1.1.1)
+    f.nodes (nodes_fit f.nodes fit.1.1.1.1.1)
 
 pub cases_few : (ds : List Definition) (hs : List Heading) → Each IsSmallDefinition ds
     → all_have_few_cases (map (definition_value hs) ds) ≡ true
@@ -206,11 +209,34 @@ universal_command (Change v (changes.Assign t)) = universal_operand t
 universal_command (Change v (changes.Load t n)) = universal_operand t
 universal_command (Change v (changes.Store n t)) = universal_operand t
 
-pub commands_universal : (ls : List Line) → are_universal_commands (program_value ls) ≡ true
-commands_universal [] = refl
-commands_universal (l ∷ ls) =
+lines_universal : (ls : List Line) → are_universal_commands (program_value ls) ≡ true
+lines_universal [] = refl
+lines_universal (l ∷ ls) =
     both_true (is_universal_command (command_value variable_value l.command))
-    (are_universal_commands (program_value ls)) (universal_command l.command) (commands_universal ls)
+    (are_universal_commands (program_value ls)) (universal_command l.command) (lines_universal ls)
+
+universal_line : (i : ℕ) (c : Command) (es : List LineEnd) → is_universal_command c ≡ true
+    → is_universal_command (line_with_end i c es).0 ≡ true
+universal_line i c [] u = u
+universal_line i c (e ∷ es) u = by_number (nat_eq e.0 i)
+  where
+    by_number : (b : Bool) → is_universal_command (chosen b c e es).0 ≡ true
+    by_number true = refl
+    by_number false = u
+
+ended_universal : (n : ℕ) (cs : List Command) (es : List LineEnd) → are_universal_commands cs ≡ true
+    → are_universal_commands (with_ends_behind n cs es) ≡ true
+ended_universal n [] es u = refl
+ended_universal n (c ∷ cs) es u =
+    let both = and_parts (is_universal_command c) (are_universal_commands cs) u in
+    both_true (is_universal_command (line_with_end (n + 1) c es).0)
+    (are_universal_commands (with_ends_behind (n + 1) cs (line_with_end (n + 1) c es).1))
+    (universal_line (n + 1) c es both.0)
+    (ended_universal (n + 1) cs (line_with_end (n + 1) c es).1 both.1)
+
+pub commands_universal : (ls : List Line) (es : List LineEnd)
+    → are_universal_commands (with_ends (program_value ls) es) ≡ true
+commands_universal ls es = ended_universal 0 (program_value ls) es (lines_universal ls)
 
 -- ---- judgements that start from a line
 
@@ -248,4 +274,4 @@ nodes_at_lines most few hs count n k (x ∷ xs) e =
 pub file_at_lines : (f : File) → file_flaw f ≡ None
     → are_at_lines (length f.lines) (map (node_value (headings f.definitions)) f.nodes) ≡ true
 file_at_lines f e = nodes_at_lines (limits f.version) (most_fits f.version) (headings f.definitions)
-    (length f.lines) 0 (first_node f) f.nodes (file_parts f e).2
+    (length f.lines) 0 (first_node f) f.nodes (file_parts f e).3

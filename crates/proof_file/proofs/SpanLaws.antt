@@ -19,7 +19,12 @@ use Rattle.proof_syntax.specs.Grammar.{instantiate, pair, pairs1, pairs, link, p
 use Rattle.proof_syntax.specs.Grammar.{definitions, more_nodes, nodes, body, file, some_pair, comma, closing_bracket}
 use Rattle.proof_syntax.specs.Grammar.{closing_brace, semicolon, or_word, by_word, last_word, turnstile}
 use Rattle.proof_file.proofs.Fitting.{HasDisjunct}
-use Rattle.proof_file.specs.Spans.{variable_span, definition_span, entailment_span, judgement_span, pair_span}
+use Rattle.heap_syntax.specs.NumberedEnds.{ends}
+use Rattle.heap_reader.specs.EndSpans.{end_span}
+use Rattle.heap_reader.proofs.EndFitting.{HasDisjunct as EndHasDisjunct}
+use Rattle.heap_reader.proofs.NumberedEnds.{numbered_ends_some, ends_words_are}
+use Rattle.proof_file.specs.Spans.{term_span, variable_span, definition_span, entailment_span, judgement_span}
+use Rattle.proof_file.specs.Spans.{pair_span}
 use Rattle.proof_file.specs.Spans.{link_span, reason_span, node_span}
 
 -- ---- lists
@@ -142,18 +147,22 @@ nodes_words (n ∷ ns) f =
     let k = length-append (node.words n) (words_many node ns ++ last_word.word tt ∷ []) in
     omega arith
 
--- the words of a file: the header, the definitions, the lines, the nodes, the last statement, and the end
+-- the words of a file: the header, the definitions, the lines, the ends, the nodes, the last statement, and the end
 pub file_words : (f : File) → file.fits f → length (file.words f)
-    ≡ 4 + total definition_span f.definitions + total (line_span variable_span) f.lines + total node_span f.nodes + 3
+    ≡ 4 + total definition_span f.definitions + total (line_span variable_span) f.lines
+    + total (end_span term_span) f.ends + total node_span f.nodes + 3
 unfolding file body definitions
 file_words f fit =
     let d = alone (λ w. true) definition definition_span definition_words f.definitions fit.1.1.0 in
     let l = lines_words variable variable_span variable_words f.version f.lines fit.1.1.1.0 in
-    let n = nodes_words f.nodes fit.1.1.1.1 in
+    let g = ends_words_are f.version f.ends fit.1.1.1.1.0 in
+    let n = nodes_words f.nodes fit.1.1.1.1.1 in
+    let last = nodes.words f.nodes ++ semicolon.word tt ∷ [] in
     let a = length-append (nodes.words f.nodes) (semicolon.word tt ∷ []) in
-    let e = length-append ((lines f.version).words f.lines) (nodes.words f.nodes ++ semicolon.word tt ∷ []) in
+    let h = length-append ((ends f.version).words f.ends) last in
+    let e = length-append ((lines f.version).words f.lines) ((ends f.version).words f.ends ++ last) in
     let b = length-append (words_many definition f.definitions)
-    ((lines f.version).words f.lines ++ (nodes.words f.nodes ++ semicolon.word tt ∷ [])) in
+    ((lines f.version).words f.lines ++ ((ends f.version).words f.ends ++ last)) in
     let c = length-append (body.words f) (the_end.word tt ∷ []) in
     omega arith
 
@@ -178,8 +187,15 @@ list_some (n ∷ ns) g = many_some (n ∷ ns) (g.1.0, g.1.1)
 
 pub nodes_some : (f : File) → file.fits f → Each (λ (n : Node). HasDisjunct n.judgement) f.nodes
 unfolding file body
-nodes_some f fit = list_some f.nodes fit.1.1.1.1
+nodes_some f fit = list_some f.nodes fit.1.1.1.1.1
+
+pub front_fits : (f : File) → file.fits f → (ends f.version).fits f.ends
+unfolding file body
+front_fits f fit = fit.1.1.1.1.0
+
+pub file_ends_some : (f : File) → file.fits f → Each EndHasDisjunct f.ends
+file_ends_some f fit = numbered_ends_some f.version f.ends (front_fits f fit)
 
 pub file_some : (f : File) → file.fits f → 0 < length f.nodes
 unfolding file body nodes
-file_some f fit = fit.1.1.1.1.0
+file_some f fit = fit.1.1.1.1.1.0

@@ -1,93 +1,38 @@
 -- What a tree without a flaw says is written as that tree.
-use Rattle.std.proofs.Common.{◌≡◌, ℕ, suc, ◌+◌, ◌≤◌, true, false, List, [], ◌∷◌, length, map, None, refl, subst, arith}
-use Rattle.std.specs.Prelude.{◌||◌, ◌&&◌, not, nat_eq, nat_lt, nat_le}
+use Rattle.std.proofs.Common.{◌≡◌, ℕ, ◌+◌, List, length, map, None, refl}
+use Rattle.std.specs.Prelude.{◌||◌, nat_eq, nat_lt}
 use Rattle.cyc_basics.specs.Limits.{AreLimits}
 use Rattle.cyc_basics.specs.declared.limits.Limits.{Limits}
-use Rattle.heap_syntax.specs.declared.lines.tree.OperandTree.{OperandTree}
-use Rattle.heap_syntax.specs.declared.lines.tree.OperandTree.TheVariants as operands
-use Rattle.heap_syntax.specs.declared.lines.tree.ChangeTree.TheVariants as changes
-use Rattle.heap_syntax.specs.declared.lines.tree.CommandTree.{CommandTree}
-use Rattle.heap_syntax.specs.declared.lines.tree.CommandTree.TheVariants.{Stop, Goto, Free, IfAny, If, StoreAtNil}
-use Rattle.heap_syntax.specs.declared.lines.tree.CommandTree.TheVariants.{Change}
-use Rattle.cyc_lex.specs.declared.fault.IllFault.TheVariants.{FallsOff, Numbering, NoLine}
-use Rattle.cyc_lex.specs.declared.fault.What.TheVariants.{Disjuncts, Lines}
+use Rattle.cyc_lex.specs.declared.fault.IllFault.TheVariants.{NoLine}
+use Rattle.cyc_lex.specs.declared.fault.What.TheVariants.{Disjuncts}
 use Rattle.heap_formula.specs.Definitions.{Definition as DefinitionValue}
 use Rattle.proof_syntax.specs.declared.tree.SideTree.{SideTree}
 use Rattle.proof_syntax.specs.declared.tree.SideTree.TheVariants.{Left, Right}
 use Rattle.proof_syntax.specs.declared.tree.PairTree.{PairTree}
-use Rattle.proof_syntax.specs.Trees.{Line, Judgement, Entails, From, Reason, Absurd, Rewrite, Split, Distinct, Weaken}
+use Rattle.proof_syntax.specs.Trees.{Judgement, Entails, From, Reason, Absurd, Rewrite, Split, Distinct, Weaken}
 use Rattle.proof_syntax.specs.Trees.{Unfold, Cut, Done, Choose, PureRight, Instantiate, Frame, UnfoldRight, Exec, Drop}
 use Rattle.proof_syntax.specs.Trees.{Link, Node, File}
 use Rattle.heap_syntax.specs.Versions.{limits}
 use Rattle.heap_reader.specs.Trees.{Heading}
 use Rattle.heap_reader.specs.Spans.{heap_span}
-use Rattle.heap_reader.specs.LineSpans.{line_span}
-use Rattle.heap_reader.specs.Flaws.{ill_if, over_if, or_later, listed_flaw, arity_in, use_flaw, heap_flaw, heaps_flaw}
-use Rattle.heap_reader.specs.LineFlaws.{goes_on, line_head_flaw, command_flaw, line_flaw}
+use Rattle.heap_reader.specs.Flaws.{ill_if, arity_in, use_flaw, heap_flaw, heaps_flaw}
 use Rattle.heap_reader.specs.Values.{place_of}
-use Rattle.heap_reader.specs.LineValues.{operand_value, command_value, variable_value, program_value}
+use Rattle.heap_reader.specs.EndValues.{ended_value}
 use Rattle.heap_reader.proofs.Fitting.{most_fits}
-use Rattle.heap_reader.proofs.NoFlaw.{neither, not_ill}
+use Rattle.heap_reader.proofs.NoFlaw.{neither}
 use Rattle.heap_reader.specs.declared.definitions.scope.Scope.TheVariants.{Outside as InNode}
 use Rattle.heap_reader.proofs.TreesAgain.{listed_again, term_again, found_name, heap_again, heaps_again}
 use Rattle.heap_reader.proofs.TreesAgain.{definition_again}
-use Rattle.proof_file.specs.Spans.{term_span, variable_span, definition_span, judgement_span, node_span}
-use Rattle.proof_file.specs.Flaws.{headings, term_flaw, variable_flaw, definition_flaw, judgement_flaw, reason_flaw}
-use Rattle.proof_file.specs.Flaws.{node_flaw, first_line, first_node, file_flaw}
-use Rattle.proof_file.specs.Values.{definition_value, judgement_value, side_value, pair_value, reason_value, node_value}
+use Rattle.proof_file.specs.Spans.{term_span, definition_span, judgement_span, node_span}
+use Rattle.proof_file.specs.Flaws.{headings, term_flaw, definition_flaw, judgement_flaw, reason_flaw}
+use Rattle.proof_file.specs.Flaws.{node_flaw, first_line, first_end, first_node, file_flaw}
+use Rattle.proof_file.specs.Values.{term_value, definition_value, judgement_value, side_value, pair_value, reason_value}
+use Rattle.proof_file.specs.Values.{node_value}
 use Rattle.proof_file.proofs.Fitting.{node_parts, file_parts}
-use Rattle.proof_file.specs.Written.{operand_tree, command_tree, lines_behind, name_of, definition_tree, judgement_tree}
+use Rattle.proof_file.proofs.LinesAgain.{program_lines_again, program_ends_again}
+use Rattle.proof_file.specs.Written.{name_of, definition_tree, judgement_tree}
 use Rattle.proof_file.specs.Written.{side_tree, pair_tree, reason_tree, node_tree, tree_of}
-use Rattle.cyc_basics.proofs.Tests.{equal_numbers}
 use Rattle.cyc_basics.proofs.Parts.{map_back}
-
--- ---- lines
-
-operand_again : (t : OperandTree ℕ) → operand_tree (operand_value variable_value t) ≡ t
-operand_again operands.Nil = refl
-operand_again (operands.Variable n) = refl
-
-command_again : (c : CommandTree ℕ) → command_tree (command_value variable_value c) ≡ c
-command_again Stop = refl
-command_again (IfAny n) = refl
-command_again (Goto n) = refl
-command_again (Free t) = λ i. Free (operand_again t i)
-command_again (If t true u n) = λ i. If (operand_again t i) true (operand_again u i) n
-command_again (If t false u n) = λ i. If (operand_again t i) false (operand_again u i) n
-command_again (StoreAtNil n t) = λ i. StoreAtNil n (operand_again t i)
-command_again (Change v (changes.New n)) = refl
-command_again (Change v (changes.Assign t)) = λ i. Change v (changes.Assign (operand_again t i))
-command_again (Change v (changes.Load t n)) = λ i. Change v (changes.Load (operand_again t i) n)
-command_again (Change v (changes.Store n t)) = λ i. Change v (changes.Store n (operand_again t i))
-
--- a line without a flaw has its place as its number
-own_number : (most : Limits) (count n k : ℕ) (l : Line) → line_flaw variable_flaw variable_span most count n k l ≡ None
-    → n + 1 ≡ l.number
-own_number most count n k l e =
-    let ends = nat_eq (suc n) count && goes_on l.command in
-    let wrong = not (nat_eq l.number (suc n)) in
-    let a = neither (line_head_flaw count n k l.number (goes_on l.command))
-    (command_flaw variable_flaw variable_span most count (k + 3) l.command) e in
-    let b = neither (ill_if ends FallsOff k) (or_later (over_if (nat_le 4096 n) Lines k)
-    (ill_if wrong Numbering (k + 1))) a.0 in
-    let c = neither (over_if (nat_le 4096 n) Lines k) (ill_if wrong Numbering (k + 1)) b.1 in
-    let same = equal_numbers l.number (suc n) (not_ill wrong Numbering (k + 1) c.1) in
-    omega (arith, same)
-
-lines_again : (most : Limits) (count n k : ℕ) (ls : List Line)
-    → listed_flaw (line_flaw variable_flaw variable_span most count) (line_span variable_span) n k ls ≡ None
-    → lines_behind n (program_value ls) ≡ ls
-lines_again most count n k [] e = refl
-lines_again most count n k (l ∷ ls) e =
-    let span = line_span variable_span in
-    let flaw = line_flaw variable_flaw variable_span most count in
-    let both = neither (flaw n k l) (listed_flaw flaw span (suc n) (k + span l) ls) e in
-    let number = own_number most count n k l both.0 in
-    let command = command_again l.command in
-    let next : suc n ≡ n + 1 = omega arith in
-    let rest = subst (λ (m : ℕ). lines_behind m (program_value ls) ≡ ls) next
-    (lines_again most count (suc n) (k + span l) ls both.1) in
-    λ i. record { number = number i; command = command i } ∷ rest i
 
 -- ---- nodes
 
@@ -148,7 +93,8 @@ module _ (most : Limits) (few : AreLimits most) (hs : List Heading) (vs : List D
 
 -- the values of a tree without a flaw have that tree
 pub tree_again : (f : File) → file_flaw f ≡ None → tree_of f.version
-    (map (definition_value (headings f.definitions)) f.definitions) (program_value f.lines)
+    (map (definition_value (headings f.definitions)) f.definitions)
+    (ended_value term_value (headings f.definitions) f.lines f.ends)
     (map (node_value (headings f.definitions)) f.nodes) ≡ f
 tree_again f e =
     let ds = f.definitions in
@@ -160,7 +106,15 @@ tree_again f e =
     let parts = file_parts f e in
     let definitions = listed_again (definition_flaw most hs) definition_span (definition_value hs) (definition_tree vs)
     (definition_again most hs vs (found_name hs ds)) 0 4 ds parts.0 in
-    let lines = lines_again most count 0 (first_line f) f.lines parts.1 in
+    let lines = program_lines_again most hs vs (found_name hs ds) f.lines f.ends (first_end f) parts.2 (first_line f)
+    parts.1 in
+    let ends = program_ends_again most hs vs (found_name hs ds) f.lines f.ends (first_end f) parts.2 in
     let nodes = listed_again (node_flaw most hs count) node_span (node_value hs) (node_tree vs)
-    (node_again most few hs vs (found_name hs ds) count) 0 (first_node f) f.nodes parts.2 in
-    λ i. record { version = f.version; definitions = definitions i; lines = lines i; nodes = nodes i }
+    (node_again most few hs vs (found_name hs ds) count) 0 (first_node f) f.nodes parts.3 in
+    λ i. record {
+      version = f.version;
+      definitions = definitions i;
+      lines = lines i;
+      ends = ends i;
+      nodes = nodes i;
+    }

@@ -1,9 +1,6 @@
 -- Values that have a text are what their tree says.
-use Rattle.std.proofs.Common.{◌≡◌, ℕ, ◌+◌, true, false, List, [], ◌∷◌, refl, sym}
+use Rattle.std.proofs.Common.{◌≡◌, ℕ, true, false, List, refl, sym}
 use Rattle.heap_formula.specs.declared.terms.Term.{Term}
-use Rattle.heap_formula.specs.declared.terms.Term.TheVariants as terms
-use Rattle.heap_formula.specs.declared.commands.Command.{Command}
-use Rattle.heap_formula.specs.declared.commands.Command.TheVariants as commands
 use Rattle.heap_formula.specs.declared.judgements.Judgement.{Judgement}
 use Rattle.heap_formula.specs.declared.judgements.Judgement.TheVariants.{Entail, Term as Halting}
 use Rattle.heap_formula.specs.declared.proof_rules.Side.{Side}
@@ -12,7 +9,6 @@ use Rattle.heap_formula.specs.declared.proof_rules.Rule.TheVariants as rules
 use Rattle.heap_formula.specs.declared.proof_rules.Reason.{Reason as ReasonValue}
 use Rattle.heap_formula.specs.declared.proof_rules.Reason.TheVariants.{Step, Back}
 use Rattle.heap_formula.specs.Definitions.{Definition as DefinitionValue}
-use Rattle.cyc_lex.proofs.BoolParts.{and-parts}
 use Rattle.cyc_grammar.specs.Classes.{is_free_name}
 use Rattle.heap_syntax.specs.Versions.{limits}
 use Rattle.proof_syntax.specs.Grammar.{reserved, uterm, definition, disjuncts, entailment, state, judgement, cut, split}
@@ -21,17 +17,15 @@ use Rattle.proof_file.specs.FileNodes.{FileNode}
 use Rattle.proof_file.specs.declared.file.ProofFile.{ProofFile}
 use Rattle.heap_reader.specs.Trees.{Heading}
 use Rattle.heap_reader.specs.Values.{place_of}
-use Rattle.heap_reader.specs.LineValues.{operand_value, command_value, variable_value, program_value}
 use Rattle.heap_reader.proofs.ValuesAgain.{each_known, found_place, term_known, heap_known, heaps_known}
 use Rattle.heap_reader.proofs.ValuesAgain.{definition_known, definitions_fit}
 use Rattle.proof_file.specs.Flaws.{headings}
 use Rattle.proof_file.specs.Values.{definition_value, judgement_value, side_value, pair_value, reason_value, node_value}
-use Rattle.proof_file.specs.Written.{operand_tree, store_tree, command_tree, lines_behind, name_of, definition_tree}
+use Rattle.proof_file.specs.Written.{name_of, definition_tree}
 use Rattle.proof_file.specs.Written.{judgement_tree, side_tree, pair_tree, reason_tree, node_tree, tree_of}
 use Rattle.proof_file.specs.Reading.{IsFileOf}
-use Rattle.proof_file.specs.Readable.{is_universal_command, are_universal_commands}
 use Rattle.proof_file.proofs.Fitting.{file_parts}
-use Rattle.rule_table.specs.Tests.{is_universal}
+use Rattle.proof_file.proofs.LinesAgain.{program_known}
 use Rattle.proof_file.proofs.ReadableNodes.{nodes_fit}
 use Rattle.cyc_basics.proofs.Parts.{map_back}
 
@@ -87,49 +81,6 @@ module _ (ds : List DefinitionValue) (ts : List Heading)
       let reason = reason_known n.reason f.1.1.0 in
       λ i. record { judgement = judgement i; reason = reason i; premises = n.premises }
 
--- ---- commands
-
-operand_known : (t : Term) → is_universal t ≡ true → operand_value variable_value (operand_tree t) ≡ t
-operand_known terms.Nil e = refl
-operand_known (terms.Univ n) e = refl
-operand_known (terms.Exist n) e = absurd cc
-
-store_known : (t : Term) (k : ℕ) (u : Term) → is_universal t ≡ true → is_universal u ≡ true
-    → command_value variable_value (store_tree t k u) ≡ commands.Store t k u
-store_known terms.Nil k u e g = let same = operand_known u g in λ i. commands.Store terms.Nil k (same i)
-store_known (terms.Univ n) k u e g = let same = operand_known u g in λ i. commands.Store (terms.Univ n) k (same i)
-store_known (terms.Exist n) k u e g = absurd cc
-
-command_known : (c : Command) → is_universal_command c ≡ true → command_value variable_value (command_tree c) ≡ c
-command_known (commands.Assign x t) e = let same = operand_known t e in λ i. commands.Assign x (same i)
-command_known (commands.Load x t k) e = let same = operand_known t e in λ i. commands.Load x (same i) k
-command_known (commands.Store t k u) e =
-    let both = and-parts (is_universal t) (is_universal u) e in
-    store_known t k u both.0 both.1
-command_known (commands.New x k) e = refl
-command_known (commands.Free t) e = let same = operand_known t e in λ i. commands.Free (same i)
-command_known (commands.IfEq t u j) e =
-    let both = and-parts (is_universal t) (is_universal u) e in
-    let left = operand_known t both.0 in
-    let right = operand_known u both.1 in
-    λ i. commands.IfEq (left i) (right i) j
-command_known (commands.IfNeq t u j) e =
-    let both = and-parts (is_universal t) (is_universal u) e in
-    let left = operand_known t both.0 in
-    let right = operand_known u both.1 in
-    λ i. commands.IfNeq (left i) (right i) j
-command_known (commands.IfAny j) e = refl
-command_known (commands.Goto j) e = refl
-command_known commands.Stop e = refl
-
-commands_known : (n : ℕ) (cs : List Command) → are_universal_commands cs ≡ true → program_value (lines_behind n cs) ≡ cs
-commands_known n [] e = refl
-commands_known n (c ∷ cs) e =
-    let both = and-parts (is_universal_command c) (are_universal_commands cs) e in
-    let first = command_known c both.0 in
-    let rest = commands_known (n + 1) cs both.1 in
-    λ i. first i ∷ rest i
-
 -- ---- files
 
 -- the definitions, the program and the nodes of a file are what its tree says
@@ -145,7 +96,7 @@ file_known f =
       most = f.limit;
       definitions = sym (each_known (definition_tree ds) (definition_value hs) definition.fits
           (definition_known ds hs placed) ds (definitions_fit tree.definitions f.fits.1.1.0));
-      program = sym (commands_known 0 f.program f.universal);
+      program = sym (program_known ds hs placed f.version f.program f.universal f.fits.1.1.1.1.0);
       nodes = sym (each_known (node_tree ds) (node_value hs) node.fits (node_known ds hs placed) f.nodes
-          (nodes_fit tree.nodes f.fits.1.1.1.1));
+          (nodes_fit tree.nodes f.fits.1.1.1.1.1));
     }

@@ -18,6 +18,8 @@ use Rattle.heap_syntax.specs.declared.lines.tree.CommandTree.{CommandTree}
 use Rattle.heap_syntax.specs.declared.lines.tree.CommandTree.TheVariants.{Stop, Goto, Free, IfAny, If, StoreAtNil}
 use Rattle.heap_syntax.specs.declared.lines.tree.CommandTree.TheVariants.{Change}
 use Rattle.heap_syntax.specs.LineGrammar as commands
+use Rattle.heap_syntax.specs.EndGrammar as grammar
+use Rattle.heap_syntax.specs.NumberedEnds.{End, ends}
 use Rattle.proof_syntax.specs.Trees.{Heap, Line, Definition, Judgement, Entails, From, Reason, Absurd, Rewrite, Split}
 use Rattle.proof_syntax.specs.Trees.{Distinct, Weaken, Unfold, Cut, Done, Choose, PureRight, Instantiate, Frame}
 use Rattle.proof_syntax.specs.Trees.{UnfoldRight, Exec, Drop, Link, Node}
@@ -28,13 +30,17 @@ use Rattle.heap_reader.specs.Flaws.{ill_if, over_if, or_later, listed_flaw, arit
 use Rattle.heap_reader.proofs.NoFlaw.{neither, none_later, not_over, at_most}
 use Rattle.heap_reader.proofs.Wider.{listed_wider, over_wider, heap_wider, heaps_wider}
 use Rattle.heap_reader.proofs.LineWider.{lines_allowed}
+use Rattle.heap_reader.proofs.EndWider.{ends_wider}
+use Rattle.heap_reader.specs.EndFlaws.{stops_at}
 use Rattle.proof_file.specs.FileNodes.{FileNode}
-use Rattle.heap_reader.specs.declared.definitions.scope.Scope.TheVariants.{Outside as InNode, Case as InCase}
+use Rattle.heap_reader.specs.declared.definitions.scope.Scope.TheVariants.{Outside as InNode, End as InEnd}
+use Rattle.heap_reader.specs.declared.definitions.scope.Scope.TheVariants.{Case as InCase}
 use Rattle.proof_file.specs.Spans.{term_span, variable_span, definition_span, judgement_span, node_span}
 use Rattle.proof_file.specs.Flaws.{headings, term_flaw, variable_flaw, program_flaw, head_flaw, definition_flaw}
-use Rattle.proof_file.specs.Flaws.{judgement_flaw, reason_flaw, node_flaw, first_line, first_node, file_flaw}
+use Rattle.proof_file.specs.Flaws.{judgement_flaw, reason_flaw, node_flaw, program_ends_flaw, first_line, first_end}
+use Rattle.proof_file.specs.Flaws.{first_node, file_flaw}
 use Rattle.proof_file.specs.Upgrades.{upgraded}
-use Rattle.proof_file.specs.Written.{lines_tree, tree_of}
+use Rattle.proof_file.specs.Written.{lines_tree, ends_tree, tree_of}
 use Rattle.proof_file.proofs.Fitting.{file_parts}
 
 -- ---- more is allowed
@@ -169,14 +175,17 @@ file_wider version ds cs ns e =
     let parts = file_parts tree e in
     let definitions = listed_flaw (definition_flaw more hs) definition_span 0 4 tree.definitions in
     let program = program_flaw more (first_line tree) tree.lines in
+    let ends = program_ends_flaw more hs tree.lines (first_end tree) tree.ends in
     let nodes = listed_flaw (node_flaw more hs count) node_span 0 (first_node tree) tree.nodes in
-    none_later definitions (or_later program nodes)
+    none_later definitions (or_later program (or_later ends nodes))
     (listed_wider (definition_flaw most hs) (definition_flaw more hs) definition_span
     (definition_wider most more within hs) 0 4 tree.definitions parts.0)
-    (none_later program nodes
+    (none_later program (or_later ends nodes)
     (lines_allowed variable_flaw variable_span most more within (first_line tree) tree.lines parts.1)
+    (none_later ends nodes (ends_wider (term_flaw InEnd) (term_flaw InEnd) (λ k t e. e) term_span most more within hs
+    (stops_at tree.lines) 0 (first_end tree) tree.ends parts.2)
     (listed_wider (node_flaw most hs count) (node_flaw more hs count) node_span
-    (node_wider most more within hs count) 0 (first_node tree) tree.nodes parts.2))
+    (node_wider most more within hs count) 0 (first_node tree) tree.nodes parts.3)))
 
 -- the grammar takes the same as a file of the upgraded version
 behind_if_wider : (free : Bool) (x : ℕ ⊎ commands.Branch ℕ) → (commands.behind_if free variable).fits x
@@ -212,8 +221,30 @@ lines_wider One ls f = lines_as_two One ls f
 lines_wider Two ls f = f
 lines_wider Three ls f = f
 
+-- where the upgraded version has ends, the version has them
+ends_fit_wider : (version : Version) (es : List End) → (ends version).fits es → (ends (upgraded version)).fits es
+unfolding grammar.ends
+ends_fit_wider One es f = f
+ends_fit_wider Two es f = f
+ends_fit_wider Three es f = f
+
 pub fits_wider : (version : Version) (ds : List DefinitionValue) (cs : List Command) (ns : List FileNode)
     → file.fits (tree_of version ds cs ns) → file.fits (tree_of (upgraded version) ds cs ns)
 unfolding file body
 fits_wider version ds cs ns e =
-    let f = e.1.1 in (tt, (tt, (f.0, (lines_wider version (lines_tree cs) f.1.0, f.1.1))))
+    let f = e.1.1 in (
+      tt,
+      (
+        tt,
+        (
+          f.0,
+          (
+            lines_wider version (lines_tree cs) f.1.0,
+            (
+              ends_fit_wider version (ends_tree ds cs) f.1.1.0,
+              f.1.1.1,
+            ),
+          ),
+        ),
+      ),
+    )

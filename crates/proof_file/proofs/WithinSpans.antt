@@ -15,13 +15,15 @@ use Rattle.heap_reader.specs.Flaws.{ill_if, over_if, or_later, listed_flaw, heap
 use Rattle.heap_reader.proofs.WithinSpans.{Before, first_before, over_before, ill_before, later, listed_before}
 use Rattle.heap_reader.proofs.WithinSpans.{listed_or_before, heaps_before}
 use Rattle.heap_reader.proofs.LineWithinSpans.{lines_before}
-use Rattle.heap_reader.specs.declared.definitions.scope.Scope.TheVariants.{Outside as InNode}
+use Rattle.heap_reader.proofs.EndWithinSpans.{ends_before}
+use Rattle.heap_reader.specs.EndFlaws.{stops_at}
+use Rattle.heap_reader.specs.declared.definitions.scope.Scope.TheVariants.{Outside as InNode, End as InEnd}
 use Rattle.heap_reader.proofs.DefinitionWithinSpans.{term_before, some_span, outside_before, definition_before}
 use Rattle.proof_file.specs.Spans.{term_span, variable_span, definition_span, entailment_span, judgement_span}
 use Rattle.proof_file.specs.Spans.{pair_span, reason_span, node_span}
 use Rattle.proof_file.specs.Flaws.{headings, term_flaw, variable_flaw, program_flaw, definition_flaw, entailment_flaw}
 use Rattle.proof_file.specs.Flaws.{judgement_flaw, pair_flaw, reason_flaw, node_flaw, first_line, first_node}
-use Rattle.proof_file.specs.Flaws.{nodes_flaw, file_flaw}
+use Rattle.proof_file.specs.Flaws.{first_end, file_ends_flaw, nodes_flaw, file_flaw}
 
 -- ---- lines
 
@@ -115,9 +117,12 @@ file_before f =
     let m = first_node f + total node_span f.nodes in
     let definitions = listed_flaw (definition_flaw most hs) definition_span 0 4 ds in
     let program = program_flaw most (first_line f) f.lines in
-    first_before definitions (or_later program (nodes_flaw f)) m
+    let ends = file_ends_flaw f in
+    first_before definitions (or_later program (or_later ends (nodes_flaw f))) m
     (later definitions (first_line f) m (omega arith) (listed_before (definition_flaw most hs) definition_span
-    (definition_before most hs) 0 4 ds)) (first_before program (nodes_flaw f) m
-    (later program (first_node f) m (omega arith) (lines_before variable_flaw variable_span variable_before
-    most (first_line f) f.lines)) (listed_before (node_flaw most hs count) node_span (node_before most hs count) 0
-    (first_node f) f.nodes))
+    (definition_before most hs) 0 4 ds)) (first_before program (or_later ends (nodes_flaw f)) m
+    (later program (first_end f) m (omega arith) (lines_before variable_flaw variable_span variable_before
+    most (first_line f) f.lines)) (first_before ends (nodes_flaw f) m
+    (later ends (first_node f) m (omega arith) (ends_before (term_flaw InEnd) term_span some_span (term_before InEnd)
+    most hs (stops_at f.lines) 0 (first_end f) f.ends))
+    (listed_before (node_flaw most hs count) node_span (node_before most hs count) 0 (first_node f) f.nodes)))

@@ -7,7 +7,7 @@ use Rattle.cyc_grammar.specs.Classes.{number}
 use Rattle.proof_syntax.specs.declared.reason_word.ReasonWord.{ReasonWord}
 use Rattle.proof_syntax.specs.declared.reason_word.ReasonWord.TheVariants as words
 use Rattle.heap_syntax.specs.Fits.{HasOneFit, many-fit, list-fit, sign-fit, uterm-fit, heap-fit, heaps-fit}
-use Rattle.heap_syntax.specs.Fits.{definition-fit}
+use Rattle.heap_syntax.specs.Fits.{definition-fit, ends-fit}
 use Rattle.proof_syntax.specs.Trees.{Entails, From}
 use Rattle.heap_syntax.specs.declared.version.Version.{Version}
 use Rattle.heap_syntax.specs.declared.lines.tree.OperandTree.TheVariants as operands
@@ -141,4 +141,4 @@ pub file-fit : HasOneFit file
 unfolding file body definitions
 file-fit f =
     ×_prop Unit-prop (×_prop Unit-prop (×_prop (many-fit definition definition-fit f.definitions)
-    (×_prop (lines-fit f.version f.lines) (nodes-fit f.nodes))))
+    (×_prop (lines-fit f.version f.lines) (×_prop (ends-fit f.version f.ends) (nodes-fit f.nodes)))))

@@ -10,11 +10,14 @@ use Rattle.heap_reader.specs.Spans.{total, heap_span}
 use Rattle.heap_reader.specs.LineSpans.{line_span}
 use Rattle.heap_reader.specs.Flaws.{Found, ill_if, over_if, or_later, listed_flaw, heap_flaw, heaps_flaw}
 use Rattle.heap_reader.specs.LineFlaws.{lines_flaw}
+use Rattle.heap_reader.specs.EndSpans.{end_span}
+use Rattle.heap_reader.specs.EndFlaws.{stops_at, ends_flaw}
 use Rattle.proof_syntax.specs.declared.tree.PairTree.{PairTree}
-use Rattle.proof_syntax.specs.Trees.{Heap, Line, Entailment, Judgement, Entails, From, Reason, Absurd, Rewrite, Split}
+use Rattle.proof_syntax.specs.Trees.{Heap, Line, End, Entailment, Judgement, Entails, From, Reason, Absurd, Rewrite}
+use Rattle.proof_syntax.specs.Trees.{Split}
 use Rattle.proof_syntax.specs.Trees.{Distinct, Weaken, Unfold, Cut, Done, Choose, PureRight, Instantiate, Frame}
 use Rattle.proof_syntax.specs.Trees.{UnfoldRight, Exec, Drop, Link, Node, File}
-use Rattle.heap_reader.specs.declared.definitions.scope.Scope.TheVariants.{Outside as InNode}
+use Rattle.heap_reader.specs.declared.definitions.scope.Scope.TheVariants.{Outside as InNode, End as InEnd}
 pub use Rattle.heap_reader.specs.DefinitionFlaws.{heading, headings, term_flaw, head_flaw, definition_flaw}
 use Rattle.proof_file.specs.Spans.{term_span, variable_span, definition_span, judgement_span, pair_span, node_span}
 
@@ -26,6 +29,10 @@ variable_flaw k n = over_if (nat_lt GREATEST_PROGRAM_VARIABLE n) ProgramVariable
 
 abbrev pub program_flaw : Limits → ℕ → List Line → Found
 program_flaw most k ls = lines_flaw variable_flaw variable_span most k ls
+
+-- the ends of a program with these lines, whose universal variables are the program's
+abbrev pub program_ends_flaw : Limits → List Heading → List Line → ℕ → List End → Found
+program_ends_flaw most hs ls k es = ends_flaw (term_flaw InEnd) term_span most hs (stops_at ls) 0 k es
 
 -- ---- nodes of a file that has so many lines, within what its version allows
 
@@ -77,12 +84,18 @@ node_flaw most hs count n k node =
 
 -- ---- files: four tokens stand before the definitions
 
--- where the lines begin, and where the nodes do
+-- where the lines begin, where the ends do, and where the nodes do
 abbrev pub first_line : File → ℕ
 first_line f = 4 + total definition_span f.definitions
 
+abbrev pub first_end : File → ℕ
+first_end f = first_line f + total (line_span variable_span) f.lines
+
 abbrev pub first_node : File → ℕ
-first_node f = first_line f + total (line_span variable_span) f.lines
+first_node f = first_end f + total (end_span term_span) f.ends
+
+abbrev pub file_ends_flaw : File → Found
+file_ends_flaw f = program_ends_flaw (limits f.version) (headings f.definitions) f.lines (first_end f) f.ends
 
 abbrev pub nodes_flaw : File → Found
 nodes_flaw f = listed_flaw (node_flaw (limits f.version) (headings f.definitions) (length f.lines)) node_span 0
@@ -92,4 +105,4 @@ abbrev pub file_flaw : File → Found
 file_flaw f =
     or_later (listed_flaw (definition_flaw (limits f.version) (headings f.definitions))
     definition_span 0 4 f.definitions) (or_later (program_flaw (limits f.version) (first_line f) f.lines)
-    (nodes_flaw f))
+    (or_later (file_ends_flaw f) (nodes_flaw f)))

@@ -31,6 +31,7 @@ is_readable n = is_universal_heap (antecedent n.judgement) && is_universal_reaso
 abbrev pub are_readable : List FileNode → Bool
 are_readable ns = list_all is_readable ns
 
+-- no existential variable stands in the command; those of an end are bound in it
 abbrev pub is_universal_command : Command → Bool
 is_universal_command (commands.Assign x t) = is_universal t
 is_universal_command (commands.Load x t k) = is_universal t
@@ -42,6 +43,7 @@ is_universal_command (commands.IfNeq t u j) = is_universal t && is_universal u
 is_universal_command (commands.IfAny j) = true
 is_universal_command (commands.Goto j) = true
 is_universal_command commands.Stop = true
+is_universal_command (commands.Ends bs) = true
 
 abbrev pub are_universal_commands : List Command → Bool
 are_universal_commands cs = list_all is_universal_command cs

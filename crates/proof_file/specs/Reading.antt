@@ -8,15 +8,15 @@ use Rattle.heap_syntax.specs.Versions.{limits}
 use Rattle.heap_reader.specs.Reading as reading
 use Rattle.proof_file.specs.declared.file.ProofFile.{ProofFile}
 use Rattle.proof_file.specs.Flaws.{headings, file_flaw}
-use Rattle.heap_reader.specs.LineValues.{program_value}
-use Rattle.proof_file.specs.Values.{definition_value, node_value}
+use Rattle.heap_reader.specs.EndValues.{ended_value}
+use Rattle.proof_file.specs.Values.{term_value, definition_value, node_value}
 
 -- the file that a tree says
 pub record IsFileOf (tree : File) (f : ProofFile) : Type 0 where
   pub version : f.version ≡ tree.version
   pub most : f.defs.most ≡ limits tree.version
   pub definitions : f.defs.list ≡ map (definition_value (headings tree.definitions)) tree.definitions
-  pub program : f.program ≡ program_value tree.lines
+  pub program : f.program ≡ ended_value term_value (headings tree.definitions) tree.lines tree.ends
   pub nodes : f.nodes ≡ map (node_value (headings tree.definitions)) tree.nodes
 
 abbrev pub proof_files : reading.Format File ProofFile

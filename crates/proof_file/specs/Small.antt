@@ -8,6 +8,7 @@ use Rattle.proof_syntax.specs.Trees.{Entailment, Judgement, Entails, From, Reaso
 use Rattle.proof_syntax.specs.Trees.{Weaken, Unfold, Cut, Done, Choose, PureRight, Instantiate, Frame, UnfoldRight}
 use Rattle.proof_syntax.specs.Trees.{Exec, Drop, Link, Node, File}
 pub use Rattle.heap_reader.specs.DefinitionSmall.{IsSmallDefinition}
+use Rattle.heap_reader.specs.EndSmall.{IsSmallEnd}
 use Rattle.proof_file.specs.Values.{term_value}
 
 pub record IsSmallEntailment (e : Entailment) : Type 0 where
@@ -47,5 +48,6 @@ IsSmallNode n = IsSmallJudgement n.judgement × IsSmallReason n.reason
 pub record IsSmallFile (f : File) : Type 0 where
   pub definitions : Each IsSmallDefinition f.definitions
   pub few : length f.definitions ≤ MOST_PREDICATES
+  pub ends : Each (IsSmallEnd term_value) f.ends
   pub nodes : Each IsSmallNode f.nodes
   pub nodes_few : length f.nodes ≤ MOST_NODES

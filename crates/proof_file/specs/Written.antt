@@ -17,7 +17,7 @@ use Rattle.heap_formula.specs.Definitions.{Definition as DefinitionValue}
 use Rattle.cyc_lex.specs.Spacing.{text_of}
 use Rattle.heap_syntax.specs.declared.version.Version.{Version}
 pub use Rattle.heap_reader.specs.Written.{term_tree, pure_tree, name_in, name_of, spatial_tree, heap_tree}
-pub use Rattle.heap_reader.specs.Written.{definition_tree}
+pub use Rattle.heap_reader.specs.Written.{definition_tree, end_tree, ends_tree}
 use Rattle.heap_syntax.specs.declared.lines.tree.OperandTree.{OperandTree}
 use Rattle.heap_syntax.specs.declared.lines.tree.OperandTree.TheVariants as operands
 use Rattle.heap_syntax.specs.declared.lines.tree.ChangeTree.TheVariants as changes
@@ -46,6 +46,7 @@ store_tree terms.Nil k u = StoreAtNil k (operand_tree u)
 store_tree (terms.Univ x) k u = Change x (changes.Store k (operand_tree u))
 store_tree (terms.Exist x) k u = StoreAtNil k (operand_tree u)
 
+-- an end stands apart from its line, which is a stop
 abbrev pub command_tree : Command → CommandTree ℕ
 command_tree commands.Stop = Stop
 command_tree (commands.IfAny j) = IfAny j
@@ -57,6 +58,7 @@ command_tree (commands.New x k) = Change x (changes.New k)
 command_tree (commands.Assign x t) = Change x (changes.Assign (operand_tree t))
 command_tree (commands.Load x t k) = Change x (changes.Load (operand_tree t) k)
 command_tree (commands.Store t k u) = store_tree t k u
+command_tree (commands.Ends bs) = Stop
 
 -- the lines with these commands, of which n stand before
 abbrev pub lines_behind : ℕ → List Command → List Line
@@ -115,12 +117,13 @@ node_tree ds n = record {
   premises = n.premises;
 }
 
--- the tree of a version with these definitions, lines and nodes
+-- the tree of a version with these definitions, lines with their ends, and nodes
 abbrev pub tree_of : Version → List DefinitionValue → List Command → List FileNode → File
 tree_of version ds cs ns = record {
   version = version;
   definitions = map (definition_tree ds) ds;
   lines = lines_tree cs;
+  ends = ends_tree ds cs;
   nodes = map (node_tree ds) ns;
 }
 

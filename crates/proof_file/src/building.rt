@@ -2,13 +2,14 @@
 ghost use Rattle.std.specs.Prelude.{◌≡◌, ◌+◌, ◌<◌, ◌≤◌, ◌^◌, None, length, map, IfOk};
 ghost use Rattle.heap_syntax.specs.Versions.{limits};
 ghost use Rattle.heap_reader.specs.Flaws.{IsWalk};
+ghost use Rattle.heap_syntax.specs.NumberedEnds.{ends as ends_syntax};
 ghost use Rattle.proof_syntax.specs.Grammar.{node};
-ghost use Rattle.proof_syntax.specs.Trees.{definition_of, node_of};
+ghost use Rattle.proof_syntax.specs.Trees.{definition_of, end_of, node_of};
 ghost use Rattle.proof_file.specs.Building.{front_of, AreSaid, IsNodeMade};
 ghost use Rattle.proof_file.specs.Flaws.{headings, node_flaw, first_node, file_flaw};
 ghost use Rattle.proof_file.specs.Spans.{node_span};
-ghost use Rattle.heap_reader.specs.LineValues.{program_value};
-ghost use Rattle.proof_file.specs.Values.{definition_value, node_value};
+ghost use Rattle.heap_reader.specs.EndValues.{ended_value};
+ghost use Rattle.proof_file.specs.Values.{term_value, definition_value, node_value};
 
 use crate::file::ProofFile;
 use crate::node::{FileNode, FileNodes};
@@ -18,10 +19,12 @@ use crate::walk::walk_node;
 use cyc_basics::limits::MOST_PREDICATES;
 use cyc_basics::memory::OutOfMemory;
 use goto_lang::Program;
-use heap_reader::definitions::{definition_values, walk_definitions};
-use heap_reader::lines::{program, walk_lines};
+use heap_reader::definitions::{Scope, definition_values, walk_definitions};
+use heap_reader::ends::{program, walk_ends};
+use heap_reader::lines::walk_lines;
 use heap_reader::{Flaw, Heads};
 use heap_syntax::Version;
+use heap_syntax::definitions::EndTree;
 use pred_defs::Defs;
 use proof_syntax::{DefinitionTree, LineTree, NodeTree};
 use std::alloc::Global;
@@ -62,21 +65,25 @@ pub struct FileFront {
     pub program: Program,
 }
 
-/// The definitions and the lines, from the fourth token on.
+/// The definitions, the lines and the ends, from the fourth token on.
 fn front(
     heads: &Heads<'_>,
     version: Version,
     definitions: &[DefinitionTree<'_>],
     lines: &[LineTree],
+    ends: &[EndTree<'_>],
 ) -> Result<usize, Flaw>
     requires known { heads.now ≡ headings (map definition_of definitions.now) }
-    requires fits { first_node (front_of version (map definition_of definitions.now) lines.now) < 2 ^ 64 }
-    ensures { IsWalk result (file_flaw (front_of version (map definition_of definitions.now) lines.now))
-        (first_node (front_of version (map definition_of definitions.now) lines.now)) }
+    requires fits { first_node
+        (front_of version (map definition_of definitions.now) lines.now (map end_of ends.now)) < 2 ^ 64 }
+    ensures { IsWalk result
+        (file_flaw (front_of version (map definition_of definitions.now) lines.now (map end_of ends.now)))
+        (first_node (front_of version (map definition_of definitions.now) lines.now (map end_of ends.now))) }
 {
     let most = version.limits();
     let first_line = walk_definitions(heads, most, 4, definitions)?;
-    walk_lines(&ProgramVariables, most, first_line, lines)
+    let first_end = walk_lines(&ProgramVariables, most, first_line, lines)?;
+    walk_ends(heads, &Scope::End, most, lines, first_end, ends)
 }
 
 /// The first flaw of what stands before the nodes of a file; the heads are those of its definitions.
@@ -85,32 +92,39 @@ pub fn front_flaw(
     version: Version,
     definitions: &[DefinitionTree<'_>],
     lines: &[LineTree],
+    ends: &[EndTree<'_>],
 ) -> Option<Flaw>
     requires known { heads.now ≡ headings (map definition_of definitions.now) }
-    requires fits { first_node (front_of version (map definition_of definitions.now) lines.now) < 2 ^ 64 }
-    ensures { result ≡ file_flaw (front_of version (map definition_of definitions.now) lines.now) }
+    requires fits { first_node
+        (front_of version (map definition_of definitions.now) lines.now (map end_of ends.now)) < 2 ^ 64 }
+    ensures { result ≡ file_flaw
+        (front_of version (map definition_of definitions.now) lines.now (map end_of ends.now)) }
 {
-    front(heads, version, definitions, lines).err()
+    front(heads, version, definitions, lines, ends).err()
 }
 
-/// What definitions and lines without a flaw say.
+/// What definitions, lines and ends without a flaw say.
 pub fn front_values(
     alloc: Global,
     heads: &Heads<'_>,
     version: Version,
     definitions: &[DefinitionTree<'_>],
     lines: &[LineTree],
+    ends: &[EndTree<'_>],
 ) -> Result<FileFront, OutOfMemory>
     requires known { heads.now ≡ headings (map definition_of definitions.now) }
-    requires right { file_flaw (front_of version (map definition_of definitions.now) lines.now) ≡ None }
+    requires fits { (ends_syntax version).fits (map end_of ends.now) }
+    requires right { file_flaw
+        (front_of version (map definition_of definitions.now) lines.now (map end_of ends.now)) ≡ None }
     ensures most { IfOk result (λ f. f.defs.most ≡ limits version) }
     ensures definitions { IfOk result
         (λ f. f.defs.list ≡ map (definition_value heads.now) (map definition_of definitions.now)) }
-    ensures program { IfOk result (λ f. f.program ≡ program_value lines.now) }
+    ensures program { IfOk result
+        (λ f. f.program ≡ ended_value term_value heads.now lines.now (map end_of ends.now)) }
 {
     let values = definition_values(alloc, heads, definitions)?;
     let defs = Defs::from_vec(alloc, version.limits(), values);
-    let program = program(alloc, &ProgramVariables, lines)?;
+    let program = program(alloc, heads, &ProgramVariables, &Scope::End, lines, ends)?;
     Ok(FileFront { defs, program })
 }
 

@@ -11,10 +11,11 @@ use Rattle.cyc_lex.specs.Lexing.{tokens_of}
 use Rattle.cyc_lex.proofs.Lexemes.{lexemes-read}
 use Rattle.cyc_grammar.specs.Syntax.{fits_many}
 use Rattle.heap_syntax.specs.declared.version.Version.TheVariants.{One}
-use Rattle.proof_syntax.specs.Trees.{Definition, Line, Node, File}
+use Rattle.proof_syntax.specs.Trees.{Definition, Line, End, Node, File}
 use Rattle.proof_syntax.specs.Grammar.{cyclist_word, proof_word, version, semicolon, node_word, last_word, premises}
 use Rattle.proof_syntax.specs.Grammar.{definitions, node, nodes, more_nodes, body, file}
 use Rattle.heap_syntax.specs.LineGrammar as commands
+use Rattle.heap_syntax.specs.EndGrammar as end_grammar
 use Rattle.proof_syntax.proofs.GrammarEnds.{body-inner}
 use Rattle.proof_file.specs.declared.file.ProofFile.{ProofFile}
 use Rattle.proof_file.specs.Written.{tree_of, text_of_file}
@@ -34,12 +35,12 @@ nodes_fit (n ∷ ns) f = (f.1.0, many_fit ns f.1.1)
 -- the nodes of a file that has a text have one
 pub all_fit : (f : File) → file.fits f → AllFit f.nodes
 unfolding file body
-all_fit f fit = nodes_fit f.nodes fit.1.1.1.1
+all_fit f fit = nodes_fit f.nodes fit.1.1.1.1.1
 
 -- a node that has a text has one alone
 pub alone_fits : (n : Node) → node.fits n → file.fits (alone n)
-unfolding file body definitions commands.lines nodes more_nodes node premises
-alone_fits n f = (tt, (tt, (tt, (tt, (omega arith, ((tt, (f.1.0, (f.1.1.0, (tt, tt)))), tt))))))
+unfolding file body definitions commands.lines end_grammar.ends nodes more_nodes node premises
+alone_fits n f = (tt, (tt, (tt, (tt, ((tt, tt), (omega arith, ((tt, (f.1.0, (f.1.1.0, (tt, tt)))), tt)))))))
 
 -- ---- words
 
@@ -68,7 +69,7 @@ behind : List Word
 behind = semicolon.word tt ∷ last_word.word tt ∷ semicolon.word tt ∷ end_word ∷ []
 
 alone_words : (n : Node) → body.words (alone n) ++ end_word ∷ [] ≡ front (statement n) ++ behind
-unfolding body definitions commands.lines nodes more_nodes node premises front behind
+unfolding body definitions commands.lines end_grammar.ends nodes more_nodes node premises front behind
 alone_words n = ap front (simp append_assoc)
 
 words_of_placed : (xs : List Token) → map word_of (map placed xs) ≡ map word xs
@@ -101,12 +102,12 @@ tokens_between n bytes ts xs spells told are =
     )
 
 -- what is made to be written is the node alone
-pub made_fits : (n : Node) (ds : List Definition) (ls : List Line) (ns : List Node) (ps : List ℕ) → ds ≡ [] → ls ≡ []
-    → ps ≡ [] → ns ≡ record { judgement = n.judgement; reason = n.reason; premises = ps } ∷ [] → node.fits n
-    → file.fits (record { version = One; definitions = ds; lines = ls; nodes = ns })
-made_fits n ds ls ns ps d l p is fits =
+pub made_fits : (n : Node) (ds : List Definition) (ls : List Line) (es : List End) (ns : List Node) (ps : List ℕ)
+    → ds ≡ [] → ls ≡ [] → es ≡ [] → ps ≡ [] → ns ≡ record { judgement = n.judgement; reason = n.reason; premises = ps } ∷ [] → node.fits n
+    → file.fits (record { version = One; definitions = ds; lines = ls; ends = es; nodes = ns })
+made_fits n ds ls es ns ps d l e p is fits =
     let alone_is : ns ≡ (alone n).nodes = is ∙ ap (λ (qs : List ℕ). record
     { judgement = n.judgement; reason = n.reason; premises = qs } ∷ []) p in
-    let same : alone n ≡ record { version = One; definitions = ds; lines = ls; nodes = ns } = λ i.
-    record { version = One; definitions = sym d i; lines = sym l i; nodes = sym alone_is i } in
+    let same : alone n ≡ record { version = One; definitions = ds; lines = ls; ends = es; nodes = ns } = λ i.
+    record { version = One; definitions = sym d i; lines = sym l i; ends = sym e i; nodes = sym alone_is i } in
     subst (λ (f : File). file.fits f) same (alone_fits n fits)

@@ -45,6 +45,7 @@ alone n = record {
   version = One;
   definitions = [];
   lines = [];
+  ends = [];
   nodes = record { judgement = n.judgement; reason = n.reason; premises = [] } ∷ [];
 }
 

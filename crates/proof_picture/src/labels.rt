@@ -50,6 +50,7 @@ pub fn text_alone(alloc: Global, node: NodeTree<'_>) -> Result<Vec<u8>, OutOfMem
         version: Version::One,
         definitions: Vec::new(alloc),
         lines: Vec::new(alloc),
+        ends: Vec::new(alloc),
         nodes,
     };
     write_tree(alloc, &tree)

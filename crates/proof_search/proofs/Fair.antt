@@ -80,9 +80,16 @@ module _ (t : Theory) where
       let a = answer_of (rule_answer t.most t.definitions t.lines j rule) ps e in
       let m = mapped_at traced a.premises k p (ap (λ (xs : List (Subgoal Judgement)). slice_get xs k) a.are ∙ at) in
       let within = each_at _ a.premises k m.from m.at (premises_within t.most t.definitions t.lines j rule a.premises
-      h.definitions h.program h.goal_within given a.is_answer) in
+      h.definitions h.program h.ends h.goal_within given a.is_answer) in
       subst (λ (q : Subgoal Judgement). IsWithinLimits t q.judgement) m.is
-      (record { some = h.some; most = h.most; definitions = h.definitions; program = h.program; goal_within = within })
+      (record {
+        some = h.some;
+        most = h.most;
+        definitions = h.definitions;
+        program = h.program;
+        ends = h.ends;
+        goal_within = within;
+      })
 
   offered : (nodes : List MadeNode) (g : OpenGoal) (r : Reason) → AllOccur (IsWithinLimits t) nodes g
       → IsIn (links_at t nodes g) r ⊎ IsIn (rules_at t nodes g) r → MayGive t r

@@ -6,6 +6,7 @@ use Rattle.heap_formula.specs.declared.proof_rules.Link.{Link}
 use Rattle.heap_formula.specs.Words.{Each}
 use Rattle.rule_table.specs.LinkTable.{link_fault}
 use Rattle.rule_table.specs.RuleBook.{variables_of}
+use Rattle.rule_book.specs.ProgramLinks.{program_link_none}
 use Rattle.back_links.specs.Listing.{links, candidates}
 use Rattle.search_moves.specs.Nodes.{OpenGoal, MadeNode, judgement_of}
 use Rattle.search_moves.specs.Trying.{Theory}
@@ -20,7 +21,7 @@ pub links_fit : (t : Theory) (nodes : List MadeNode) (g : OpenGoal)
     → Each (IsLinked t nodes g.premise.judgement) (links_offered t nodes g)
 links_fit t nodes g =
     let j = g.premise.judgement in
-    all_offered (IsLinked t nodes j) t nodes g (λ k node e.
+    all_offered (IsLinked t nodes j) t nodes g (λ k node e whole.
     let p = variables_of t.lines j in
     let passes : Link → Bool = λ link. is_none (link_fault j (judgement_of node) link p) in
     let found = links j (judgement_of node) k p in
@@ -28,7 +29,8 @@ links_fit t nodes g =
     (λ link h. (
       node,
       subst (λ v. slice_get nodes v ≡ Some node) (sym h.0) e,
-      none_is (link_fault j (judgement_of node) link p) h.1,
+      program_link_none t.lines j (judgement_of node) link
+          (none_is (link_fault j (judgement_of node) link p) h.1) whole,
     )) found
     (each_both (λ (link : Link). link.target ≡ k) (λ (link : Link). passes link ≡ true) found
     (links_target j (judgement_of node) k p) (each_passes passes (candidates j (judgement_of node) k))))

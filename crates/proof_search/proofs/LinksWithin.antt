@@ -1,6 +1,6 @@
 -- The links that a goal within the limits is offered are within them, and lead to nodes before the goal.
 use Rattle.std.proofs.Common.{◌≡◌, ℕ, ◌+◌, ◌<◌, ◌≤◌, List, [], ◌∷◌, map, length, take, Some, refl}
-use Rattle.std.proofs.Common.{arith}
+use Rattle.std.proofs.Common.{arith, Bool, true, false, if◌then◌else◌}
 use Rattle.std.proofs.lemmas.Option.{slice_get_within}
 use Rattle.std.specs.Prelude.{slice_get}
 use Rattle.std.specs.List.{flat_map, range_with_len}
@@ -14,12 +14,13 @@ use Rattle.heap_formula.specs.Fresh.{judgement_bound}
 use Rattle.heap_formula.specs.Substitution.{Bindings}
 use Rattle.heap_formula.specs.Words.{Each}
 use Rattle.rule_table.specs.LinkTable.{link_fault}
-use Rattle.rule_table.specs.RuleBook.{variables_of}
+use Rattle.rule_table.specs.RuleBook.{variables_of, leaves_nothing}
 use Rattle.back_links.specs.Listing.{stands_in, universals, selections, value_choices, values_of, maps, substitutions}
 use Rattle.back_links.specs.Listing.{covers, link_of, links, candidates as choices_of}
 use Rattle.search_moves.specs.Nodes.{OpenGoal, MadeNode, judgement_of}
 use Rattle.search_moves.specs.Trying.{Theory}
-use Rattle.search_moves.specs.Offering.{is_companion, links_to, candidates, rules_before, links_offered}
+use Rattle.search_moves.specs.Offering.{is_companion, links_to, whole_links, candidates, rules_before}
+use Rattle.search_moves.specs.Offering.{links_offered}
 use Rattle.rule_book.specs.Limits.{IsJudgementWithin, IsTermWithin, IsPairWithin, IsReasonWithin}
 use Rattle.proof_search.proofs.Members.{each_if, each_filter, each_unless_some, each_flat_map, each_placed}
 use Rattle.proof_search.proofs.HeapTerms.{judgement_below}
@@ -82,15 +83,23 @@ links_each P Q bud companion target p subs h =
 
 -- what holds of each link to a node before the goal holds of each that is offered
 offered_each : (P : Link → Type 0) (most : ℕ) (t : Theory) (nodes : List MadeNode) (j : Judgement)
-    → ((k : ℕ) (node : MadeNode) → slice_get nodes k ≡ Some node
+    → ((k : ℕ) (node : MadeNode) → slice_get nodes k ≡ Some node → leaves_nothing t.lines j (judgement_of node) ≡ true
     → Each P (links j (judgement_of node) k (variables_of t.lines j))) → (k : ℕ) (node : MadeNode)
     → slice_get nodes k ≡ Some node → Each P (links_to most t.lines j k node)
 offered_each P most t nodes j h k node e =
-    let found = links j (judgement_of node) k (variables_of t.lines j) in
-    each_if P (is_companion j node) (take most found) (each_take P most found (h k node e))
+    each_if P (is_companion j node) (whole_links most t.lines j k (judgement_of node))
+    (by (leaves_nothing t.lines j (judgement_of node)) refl)
+  where
+    found : List Link
+    found = links j (judgement_of node) k (variables_of t.lines j)
+
+    by : (b : Bool) → leaves_nothing t.lines j (judgement_of node) ≡ b → Each P (if b then take most found else [])
+    by true whole = each_take P most found (h k node e whole)
+    by false over = tt
 
 pub all_offered : (P : Link → Type 0) (t : Theory) (nodes : List MadeNode) (g : OpenGoal)
     → ((k : ℕ) (node : MadeNode) → slice_get nodes k ≡ Some node
+    → leaves_nothing t.lines g.premise.judgement (judgement_of node) ≡ true
     → Each P (links g.premise.judgement (judgement_of node) k (variables_of t.lines g.premise.judgement)))
     → Each P (links_offered t nodes g)
 all_offered P t nodes g h =
@@ -105,7 +114,7 @@ pub links_within : (t : Theory) (nodes : List MadeNode) (g : OpenGoal)
     → Each (λ (link : Link). IsReasonWithin t.most t.definitions (Back link)) (links_offered t nodes g)
 links_within t nodes g w ws =
     let j = g.premise.judgement in
-    all_offered (λ (link : Link). IsReasonWithin t.most t.definitions (Back link)) t nodes g (λ k node e.
+    all_offered (λ (link : Link). IsReasonWithin t.most t.definitions (Back link)) t nodes g (λ k node e whole.
     links_each (λ (link : Link). IsReasonWithin t.most t.definitions (Back link)) (Each IsPairWithin) j
     (judgement_of node) k (variables_of t.lines j)
     (substitutions_within j (judgement_of node) (judgement_below t.most t.definitions j w.heaps)
@@ -124,7 +133,7 @@ pub links_back : (t : Theory) (nodes : List MadeNode) (g : OpenGoal)
     → Each (λ (link : Link). link.target < length nodes) (links_offered t nodes g)
 links_back t nodes g =
     let j = g.premise.judgement in
-    all_offered (λ (link : Link). link.target < length nodes) t nodes g (λ k node e.
+    all_offered (λ (link : Link). link.target < length nodes) t nodes g (λ k node e whole.
     let less = slice_get_within nodes k node e in
     each_imply (λ (link : Link). link.target ≡ k) (λ (link : Link). link.target < length nodes)
     (λ link same. omega (arith, same, less)) (links j (judgement_of node) k (variables_of t.lines j))

@@ -24,7 +24,7 @@ use Rattle.proof_file.specs.declared.file.ProofFile.{ProofFile}
 use Rattle.proof_file.specs.FileNodes.{FileNode}
 use Rattle.proof_check.specs.Files.{HasSmallHeaps}
 use Rattle.proof_check.proofs.KeptFacts.{root_holds}
-use Rattle.rule_book.specs.Limits.{IsDefinitionWithin, IsHeapWithin, IsJudgementWithin}
+use Rattle.rule_book.specs.Limits.{IsDefinitionWithin, IsHeapWithin, IsJudgementWithin, AreEndsWithin}
 use Rattle.rule_book.proofs.Heaps.{short_spatials}
 use Rattle.rule_book.proofs.Judgements.{first_heap}
 use Rattle.search_moves.specs.Limits.{IsSmall}
@@ -65,13 +65,15 @@ limit_positive : (problem : Problem) → 0 < problem.defs.most.spatial
 limit_positive problem = subst (λ (most : Limits). 0 < most.spatial) (sym problem.limit) (some_atoms problem.version)
 
 pub within : (problem : Problem) → Each (IsDefinitionWithin problem.defs.most problem.defs.list) problem.defs.list
-    → IsProgram problem.program → IsJudgementWithin problem.defs.most problem.defs.list (length problem.program)
-    problem.goal → IsWithinLimits (theory_for problem) problem.goal
-within problem definitions program goal = record {
+    → IsProgram problem.program → AreEndsWithin problem.defs.most problem.defs.list problem.program
+    → IsJudgementWithin problem.defs.most problem.defs.list (length problem.program) problem.goal
+    → IsWithinLimits (theory_for problem) problem.goal
+within problem definitions program ends goal = record {
   some = limit_positive problem;
   most = limit_bounded problem;
   definitions = definitions;
   program = program;
+  ends = ends;
   goal_within = goal;
 }
 

@@ -11,8 +11,9 @@ use Rattle.heap_formula.specs.declared.proof_rules.RuleFault.{RuleFault}
 use Rattle.heap_formula.specs.Words.{Each}
 use Rattle.heap_formula.proofs.Members.{each_from}
 use Rattle.rule_table.specs.Answer.{Answer}
-use Rattle.rule_table.specs.LinkTable.{link_fault, link_premise}
-use Rattle.rule_table.specs.RuleBook.{variables_of, rule_answer}
+use Rattle.rule_table.specs.LinkTable.{link_premise}
+use Rattle.rule_table.specs.RuleBook.{variables_of, rule_answer, program_link_fault}
+use Rattle.rule_book.specs.ProgramLinks.{program_link_parts}
 use Rattle.rule_book.specs.Limits.{HasShortNumbers, IsShortNumber}
 use Rattle.rule_book.proofs.Shorts.{rule_short, link_short}
 use Rattle.trace_pairs.specs.Graph.{Edge, Pair}
@@ -60,9 +61,10 @@ module _ (t : Theory) (b : Tableau Judgement Reason) (all' : AreNodes (logic_ove
   reason_short v j (Back link) es within by =
       let less = slice_get_within b.nodes link.target by.companion by.is_companion in
       let k = judgement_of by.companion in
-      let none = no_fault (link_fault j k link (variables_of t.lines j)) (link_premise k link) by.pairs by.is in
-      link_short t.most t.definitions (length t.lines) (variables_of t.lines j) j k link within.most within.goal_within none
-      (omega arith)
+      let none = no_fault (program_link_fault t.lines j k link) (link_premise k link) by.pairs by.is in
+      let fits = (program_link_parts t.lines j k link none).0 in
+      link_short t.most t.definitions (length t.lines) (variables_of t.lines j) j k link within.most within.goal_within
+      fits (omega arith)
 
   numbers_short : (v : ℕ) (j : Judgement) (r : Reason) (o : Option ℕ) (es : List Edge)
       → IsBy (logic_over t) b.nodes v j r o es →

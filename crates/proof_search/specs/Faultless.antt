@@ -3,8 +3,7 @@ use Rattle.std.specs.Prelude.{◌≡◌, List, Some, None, true, slice_get}
 use Rattle.heap_formula.specs.declared.judgements.Judgement.{Judgement}
 use Rattle.heap_formula.specs.declared.proof_rules.Link.{Link}
 use Rattle.heap_formula.specs.declared.proof_rules.Rule.{Rule}
-use Rattle.rule_table.specs.LinkTable.{link_fault}
-use Rattle.rule_table.specs.RuleBook.{variables_of}
+use Rattle.rule_table.specs.RuleBook.{program_link_fault}
 use Rattle.search_moves.specs.Nodes.{MadeNode, judgement_of}
 use Rattle.search_moves.specs.Trying.{Theory, is_applicable}
 
@@ -16,4 +15,4 @@ HasPremises t j rule = is_applicable t j rule ≡ true
 abbrev pub IsLinked : Theory → List MadeNode → Judgement → Link → Type 0
 IsLinked t nodes j link =
     (node : MadeNode) × (slice_get nodes link.target ≡ Some node)
-    × (link_fault j (judgement_of node) link (variables_of t.lines j) ≡ None)
+    × (program_link_fault t.lines j (judgement_of node) link ≡ None)

@@ -16,7 +16,7 @@ use Rattle.proof_syntax.specs.declared.tree.SideTree.TheVariants.{Left, Right}
 use Rattle.proof_syntax.specs.declared.reason_word.ReasonWord.{ReasonWord}
 use Rattle.proof_syntax.specs.declared.reason_word.ReasonWord.TheVariants as words
 use Rattle.proof_syntax.specs.ReasonWords.{side_text, sides}
-use Rattle.proof_syntax.specs.Trees.{Heap, Line, Definition, Entailment, Judgement, Reason, Node}
+use Rattle.proof_syntax.specs.Trees.{Heap, Entailment, Judgement, Reason, Node}
 use Rattle.proof_syntax.specs.Grammar.{Any, node_word, from_word, given_word, or_word, by_word, last_word, cyclist_word}
 use Rattle.proof_syntax.specs.Grammar.{proof_word, version, dollar, query, comma, semicolon, assign, turnstile}
 use Rattle.proof_syntax.specs.Grammar.{opening_brace, closing_brace, uterm, terms, heap, cons, IsSome, variable, lines}
@@ -25,12 +25,13 @@ use Rattle.proof_syntax.specs.Grammar.{from_judgement, judgement, bracketed, sid
 use Rattle.proof_syntax.specs.Grammar.{to_pair, from_pair, pair, some_pair, pairs1, pairs, to_link, from_link, link}
 use Rattle.proof_syntax.specs.Grammar.{Parts, parts, to_reason, from_reason, reason_word, reason, premises, to_node}
 use Rattle.proof_syntax.specs.Grammar.{from_node, node, some_node, more_nodes, nodes, to_file, from_file, contents}
-use Rattle.proof_syntax.specs.Grammar.{body, file}
+use Rattle.proof_syntax.specs.Grammar.{ends, Contents, body, file}
 use Rattle.heap_syntax.specs.declared.version.Version.{Version}
 use Rattle.heap_syntax.proofs.WordTexts.{or-word, last-word, cyclist-word, version-word, syms, node-word, from-word}
 use Rattle.heap_syntax.proofs.WordTexts.{given-word, by-word}
 use Rattle.heap_syntax.proofs.NumberLaws.{bracketed-inner, two_numbers-inner, premises-inner}
 use Rattle.heap_syntax.proofs.CommandLaws.{lines-inner}
+use Rattle.heap_syntax.proofs.NumberedEndLaws.{ends-inner}
 
 -- ---- words
 
@@ -147,11 +148,11 @@ contents-inner : (v : Version) → Inner (contents v)
 contents-inner v =
     after-inner semicolon _ syms.semicolon_word (seq-inner _ _ definitions-inner
     (seq-inner (lines v) _ (lines-inner v variable variable-inner)
-    (before-inner nodes semicolon syms.semicolon_word nodes-inner)))
+    (seq-inner (ends v) _ (ends-inner v) (before-inner nodes semicolon syms.semicolon_word nodes-inner))))
 
 pub body-inner : Inner body
 unfolding body
-body-inner = shaped-inner {A = (v : Version) × (List Definition × (List Line × List Node))} to_file from_file Any _
+body-inner = shaped-inner {A = (v : Version) × Contents} to_file from_file Any _
     (after-inner cyclist_word _ cyclist-word (after-inner proof_word _ proof-word
     (headed-inner version contents version-word contents-inner)))
 

@@ -1,7 +1,8 @@
 -- The grammar is lawful: what is read is spelled so, what is spelled is read, and a fault is exact.
+use Rattle.std.proofs.Common.{Bool}
 use Rattle.std.proofs.Common.{◌≡◌, ℕ, ◌<◌, true, false, List, [], ◌∷◌, ◌++◌, length, Some, refl, arith, inl, inr, ◌⊎◌}
 use Rattle.cyc_lex.specs.Word.{Word}
-use Rattle.cyc_grammar.specs.Syntax.{one, seq, after, before, headed, is_one, uncons, list1}
+use Rattle.cyc_grammar.specs.Syntax.{Syntax, one, seq, after, before, headed, is_one, uncons, list1}
 use Rattle.cyc_grammar.specs.Classes.{the_end, number, find_text, keyword_of}
 use Rattle.cyc_grammar.proofs.Laws.{Lawful, Stops, Begins, BeginsNot, BeginsNot-append, ClassLaw, one-law, seq-law}
 use Rattle.cyc_grammar.proofs.Laws.{shaped-law, alt-law, many-law, after-law, before-law, nothing-law, headed-law}
@@ -17,6 +18,7 @@ use Rattle.proof_syntax.specs.declared.tree.SideTree.TheVariants.{Left, Right}
 use Rattle.proof_syntax.specs.declared.reason_word.ReasonWord.{ReasonWord}
 use Rattle.proof_syntax.specs.declared.reason_word.ReasonWord.TheVariants as words
 use Rattle.proof_syntax.specs.ReasonWords.{reason_text, reason_words, side_text, sides}
+use Rattle.proof_syntax.specs.Trees.{End}
 use Rattle.proof_syntax.specs.Trees.{Heap, Line, Definition, Entailment, Judgement, Entails, From, Reason, Absurd}
 use Rattle.proof_syntax.specs.Trees.{Rewrite, Split, Distinct, Weaken, Unfold, Cut, Done, Choose, PureRight}
 use Rattle.proof_syntax.specs.Trees.{Instantiate, Frame, UnfoldRight, Exec, Drop, Link, Node}
@@ -28,10 +30,14 @@ use Rattle.proof_syntax.specs.Grammar.{to_judgement, from_judgement, judgement, 
 use Rattle.proof_syntax.specs.Grammar.{split, cut, instantiate, to_pair, from_pair, pair, some_pair, pairs1, pairs}
 use Rattle.proof_syntax.specs.Grammar.{to_link, from_link, link, Parts, parts, made_of, to_reason, from_reason}
 use Rattle.proof_syntax.specs.Grammar.{reason_word, reason, premises, to_node, from_node, node, some_node, definitions}
-use Rattle.proof_syntax.specs.Grammar.{more_nodes, nodes, to_file, from_file, version, contents, body, file}
+use Rattle.proof_syntax.specs.Grammar.{more_nodes, nodes, Contents, to_file, from_file, version, contents, body, file}
+use Rattle.proof_syntax.specs.Grammar.{ends_word, ends}
 use Rattle.heap_syntax.specs.declared.version.Version.{Version}
+use Rattle.heap_syntax.specs.declared.version.Version.TheVariants.{One, Two, Three}
 use Rattle.heap_syntax.proofs.WordTexts.{version-law}
 use Rattle.heap_syntax.specs.LineGrammar as commands
+use Rattle.heap_syntax.specs.EndGrammar as endings
+use Rattle.heap_syntax.proofs.NumberedEndLaws.{ends-law, ends-end}
 use Rattle.heap_syntax.proofs.CommandLaws.{VariableLaw, lines-law, lines-end}
 use Rattle.heap_syntax.proofs.HeapLaws.{closed-stops, list-end, listed-closed, heap-not, heaps-law}
 use Rattle.heap_syntax.proofs.NumberLaws.{bracketed-law, bracketed-closed, two_numbers-law, premises-law}
@@ -353,32 +359,54 @@ dollar_variables = record {
   not_star = λ n f. refl;
 }
 
-pub lines-apart : (v : Version) (ls : List Line) (ns : List Node) (rest : List Word)
-    → Stops ((lines v).more ls) ((before nodes semicolon).words ns ++ rest)
-unfolding nodes node
-lines-apart v ls ns rest = lines-end v variable (node_word.word tt) refl ls
+-- the ends, and what stands after them
+abbrev pub behind_lines : Version → Syntax (List End × List Node)
+behind_lines v = seq (ends v) (before nodes semicolon)
 
-definitions-apart : (v : Version) (ds : List Definition) (ls : List Line) (ns : List Node) (rest : List Word)
-    → Stops (definitions.more ds) ((seq (lines v) (before nodes semicolon)).words (ls, ns) ++ rest)
-unfolding nodes node commands.lines commands.line
-definitions-apart v ds [] ns rest = definitions-end (node_word.word tt) refl ds
-definitions-apart v ds (l ∷ ls) ns rest = definitions-end (commands.line_word.word tt) refl ds
+pub ends-apart : (v : Version) (es : List End) (ns : List Node) (rest : List Word)
+    → Stops ((ends v).more es) ((before nodes semicolon).words ns ++ rest)
+unfolding nodes node
+ends-apart v es ns rest = ends-end v (node_word.word tt) refl es
+
+-- what goes on neither at the word "ends" nor at "node" stops before ends and nodes
+stops-behind : (v : Version) (more : Word → Bool) (es : List End) (ns : List Node) (rest : List Word)
+    → more (ends_word.word tt) ≡ false → more (node_word.word tt) ≡ false
+    → Stops more ((behind_lines v).words (es, ns) ++ rest)
+unfolding nodes node endings.ends endings.end
+stops-behind One more es ns rest h k = k
+stops-behind Two more es ns rest h k = k
+stops-behind Three more [] ns rest h k = k
+stops-behind Three more (e ∷ es) ns rest h k = h
+
+pub lines-apart : (v : Version) (ls : List Line) (es : List End) (ns : List Node) (rest : List Word)
+    → Stops ((lines v).more ls) ((behind_lines v).words (es, ns) ++ rest)
+lines-apart v ls es ns rest = stops-behind v ((lines v).more ls) es ns rest
+    (lines-end v variable (ends_word.word tt) refl ls) (lines-end v variable (node_word.word tt) refl ls)
+
+definitions-apart : (v : Version) (ds : List Definition) (ls : List Line) (es : List End) (ns : List Node)
+    (rest : List Word) → Stops (definitions.more ds) ((seq (lines v) (behind_lines v)).words (ls, (es, ns)) ++ rest)
+unfolding commands.lines commands.line
+definitions-apart v ds [] es ns rest = stops-behind v (definitions.more ds) es ns rest
+    (definitions-end (ends_word.word tt) refl ds) (definitions-end (node_word.word tt) refl ds)
+definitions-apart v ds (l ∷ ls) es ns rest = definitions-end (commands.line_word.word tt) refl ds
 
 -- ---- files
 
 pub contents-law : (v : Version) → Lawful (contents v)
 contents-law v =
     after-law semicolon _ (symbol-law _)
-    (seq-law definitions (seq (lines v) (before nodes semicolon)) definitions-law
-    (seq-law (lines v) (before nodes semicolon) (lines-law v variable dollar_variables)
+    (seq-law definitions (seq (lines v) (behind_lines v)) definitions-law
+    (seq-law (lines v) (behind_lines v) (lines-law v variable dollar_variables)
+    (seq-law (ends v) (before nodes semicolon) (ends-law v)
     (before-law nodes semicolon (symbol-law _) nodes-law (λ ns f. nodes-closed ns (semicolon.word tt)))
-    (λ ls ns r fls fns h. lines-apart v ls ns r))
-    (λ ds p r fx fy h. definitions-apart v ds p.0 p.1 r))
+    (λ es ns r fes fns h. ends-apart v es ns r))
+    (λ ls p r fls fp h. lines-apart v ls p.0 p.1 r))
+    (λ ds p r fx fy h. definitions-apart v ds p.0 p.1.0 p.1.1 r))
 
 body-law : Lawful body
 unfolding body
 body-law =
-    shaped-law {A = (v : Version) × (List Definition × (List Line × List Node))} to_file from_file Any _
+    shaped-law {A = (v : Version) × Contents} to_file from_file Any _
     (λ x f. (refl, tt)) (λ n h. refl)
     (after-law _ _ (keyword-law _) (after-law _ _ (keyword-law _)
     (headed-law version contents version-law contents-law)))

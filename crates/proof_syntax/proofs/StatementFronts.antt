@@ -1,22 +1,22 @@
 -- What is kept of a statement that is read is its front.
-use Rattle.std.proofs.Common.{◌≡◌, ℕ, refl, inl, inr, ◌⊎◌, ap, ◌∙◌, Ok, Err, sym, List, []}
+use Rattle.std.proofs.Common.{◌≡◌, ℕ, Bool, true, false, refl, inl, inr, ◌⊎◌, ap, ◌∙◌, Ok, Err, sym, List, []}
 use Rattle.cyc_lex.specs.Word.{Word}
-use Rattle.cyc_grammar.specs.Syntax.{Reading, ◌>>=◌, Syntax, alt, is_one}
+use Rattle.cyc_grammar.specs.Syntax.{Reading, ◌>>=◌, Syntax, is_one}
 use Rattle.heap_syntax.specs.LineGrammar as commands
 use Rattle.heap_syntax.specs.declared.keep.Keep.{Keep}
-use Rattle.heap_syntax.specs.declared.keep.Keep.TheVariants.{All}
-use Rattle.heap_syntax.specs.Grammar as shared
-use Rattle.heap_syntax.specs.DefinitionGrammar.{cases, kept_cases}
 use Rattle.heap_syntax.specs.declared.version.Version.{Version}
-use Rattle.heap_syntax.proofs.Fronts.{mapped, Fronts, same-front, both, alt-front}
+use Rattle.heap_syntax.proofs.Fronts.{mapped, Fronts, same-front, both, alt-front, shaped-front}
 use Rattle.heap_syntax.proofs.DefinitionFronts.{definition-front}
-use Rattle.proof_syntax.specs.Trees.{Definition, Line, Node}
-use Rattle.proof_syntax.specs.Keeping.{definition_front, node_front}
-use Rattle.proof_syntax.specs.Grammar.{pred_word, node_word, variable, definition, kept_definition, node, kept_node}
-use Rattle.proof_syntax.proofs.NodeFronts.{node-front, whole-node}
-use Rattle.proof_syntax.specs.Left.{Part, First, Preds, Lines, Nodes, Statement, first_statement, last_statement}
-use Rattle.proof_syntax.specs.Left.{line_or_node, kept_line_or_node, statement_of, kept_statement, line_or_node_front}
-use Rattle.proof_syntax.specs.Left.{statement_front, next}
+use Rattle.heap_syntax.proofs.NumberedEndLaws.{end-front}
+use Rattle.proof_syntax.specs.Trees.{Definition, Line, End, Node}
+use Rattle.proof_syntax.specs.Keeping.{definition_front, end_front, node_front}
+use Rattle.proof_syntax.specs.Grammar.{pred_word, ends_word, node_word, variable, definition, kept_definition, end}
+use Rattle.proof_syntax.specs.Grammar.{kept_end, node, kept_node}
+use Rattle.proof_syntax.proofs.NodeFronts.{node-front}
+use Rattle.proof_syntax.specs.Left.{Part, First, Preds, Lines, Ends, Nodes, Statement, first_statement, last_statement}
+use Rattle.proof_syntax.specs.Left.{IsNode, the_node, end_or_node_over, end_or_node, kept_end_or_node, line_or_later}
+use Rattle.proof_syntax.specs.Left.{kept_line_or_later, statement_of, kept_statement, end_or_node_front}
+use Rattle.proof_syntax.specs.Left.{line_or_later_front, statement_front, next}
 
 -- the same front in another form
 as-front : {A : Type 0} (f g : A → A) (a b : Syntax A) → ((x : A) → f x ≡ g x) → Fronts f a b → Fronts g a b
@@ -26,14 +26,32 @@ as-front {A = A} f g a b same p = record { reads = λ ws. p.reads ws ∙ by (a.r
     by (Ok x) = ap (λ (y : A). Ok (y, x.1)) (same x.0)
     by (Err left) = refl
 
-line_or_node-front : (k : Keep) (v : Version) → Fronts (line_or_node_front k) (line_or_node v) (kept_line_or_node k v)
-unfolding line_or_node kept_line_or_node
-line_or_node-front k v =
-    as-front (both (λ l. l) (node_front k)) (line_or_node_front k) _ _ same
-    (alt-front (is_one commands.line_word) (λ l. l) (node_front k) (commands.line v variable) node
-    (commands.line v variable) (kept_node k) (same-front (commands.line v variable)) (node-front k))
+end_or_node-front : (k : Keep) (v : Version) → Fronts (end_or_node_front k) (end_or_node v) (kept_end_or_node k v)
+unfolding end_or_node kept_end_or_node
+end_or_node-front k v = by (commands.has_ends v)
   where
-    same : (x : Line ⊎ Node) → both (λ l. l) (node_front k) x ≡ line_or_node_front k x
+    same : (x : End ⊎ Node) → both (end_front k) (node_front k) x ≡ end_or_node_front k x
+    same (inl e) = refl
+    same (inr n) = refl
+
+    by : (b : Bool) → Fronts (end_or_node_front k) (end_or_node_over b end node)
+        (end_or_node_over b (kept_end k) (kept_node k))
+    by true =
+        as-front (both (end_front k) (node_front k)) (end_or_node_front k) _ _ same
+        (alt-front (is_one ends_word) (end_front k) (node_front k) end node (kept_end k) (kept_node k) (end-front k)
+        (node-front k))
+    by false = shaped-front {A = Node} {C = Node} (node_front k) (end_or_node_front k) inr the_node IsNode inr the_node
+        IsNode node (kept_node k) (λ n. refl) (node-front k)
+
+line_or_later-front : (k : Keep) (v : Version)
+    → Fronts (line_or_later_front k) (line_or_later v) (kept_line_or_later k v)
+unfolding line_or_later kept_line_or_later
+line_or_later-front k v =
+    as-front (both (λ l. l) (end_or_node_front k)) (line_or_later_front k) _ _ same
+    (alt-front (is_one commands.line_word) (λ l. l) (end_or_node_front k) (commands.line v variable) (end_or_node v)
+    (commands.line v variable) (kept_end_or_node k v) (same-front (commands.line v variable)) (end_or_node-front k v))
+  where
+    same : (x : Line ⊎ (End ⊎ Node)) → both (λ l. l) (end_or_node_front k) x ≡ line_or_later_front k x
     same (inl l) = refl
     same (inr n) = refl
 
@@ -41,15 +59,16 @@ pub kept-front : (k : Keep) (p : Part) → Fronts (statement_front k p) (stateme
 kept-front k First = as-front (λ v. v) (statement_front k First) first_statement first_statement (λ v. refl)
     (same-front first_statement)
 kept-front k (Preds v) =
-    as-front (both (definition_front k) (line_or_node_front k)) (statement_front k (Preds v)) _ _ same
-    (alt-front (is_one pred_word) (definition_front k) (line_or_node_front k) definition (line_or_node v)
-    (kept_definition k) (kept_line_or_node k v) (definition-front k) (line_or_node-front k v))
+    as-front (both (definition_front k) (line_or_later_front k)) (statement_front k (Preds v)) _ _ same
+    (alt-front (is_one pred_word) (definition_front k) (line_or_later_front k) definition (line_or_later v)
+    (kept_definition k) (kept_line_or_later k v) (definition-front k) (line_or_later-front k v))
   where
-    same : (x : Definition ⊎ (Line ⊎ Node)) → both (definition_front k) (line_or_node_front k) x
+    same : (x : Definition ⊎ (Line ⊎ (End ⊎ Node))) → both (definition_front k) (line_or_later_front k) x
         ≡ statement_front k (Preds v) x
     same (inl d) = refl
     same (inr s) = refl
-kept-front k (Lines v) = line_or_node-front k v
+kept-front k (Lines v) = line_or_later-front k v
+kept-front k (Ends v) = end_or_node-front k v
 kept-front k Nodes =
     as-front (both (node_front k) (λ u. u)) (statement_front k Nodes) _ _ same
     (alt-front (is_one node_word) (node_front k) (λ u. u) node last_statement (kept_node k) last_statement
@@ -93,19 +112,12 @@ pub next-front : (k : Keep) (p : Part) (t : Statement p) → next p (statement_f
 next-front k First v = refl
 next-front k (Preds v) (inl d) = refl
 next-front k (Preds v) (inr (inl l)) = refl
-next-front k (Preds v) (inr (inr n)) = refl
+next-front k (Preds v) (inr (inr (inl e))) = refl
+next-front k (Preds v) (inr (inr (inr n))) = refl
 next-front k (Lines v) (inl l) = refl
-next-front k (Lines v) (inr n) = refl
+next-front k (Lines v) (inr (inl e)) = refl
+next-front k (Lines v) (inr (inr n)) = refl
+next-front k (Ends v) (inl e) = refl
+next-front k (Ends v) (inr n) = refl
 next-front k Nodes (inl n) = refl
 next-front k Nodes (inr u) = refl
-
--- ---- where all is kept
-
-whole-definition : kept_definition All ≡ definition
-unfolding definition kept_definition cases kept_cases shared.heap shared.kept_heap shared.pures shared.pures1
-    shared.kept_pures shared.listed shared.kept_listed shared.spatials shared.spatials1 shared.kept_spatials
-whole-definition = refl
-
-whole-line_or_node : (v : Version) → kept_line_or_node All v ≡ line_or_node v
-unfolding line_or_node kept_line_or_node
-whole-line_or_node v = λ i. alt (is_one commands.line_word) (commands.line v variable) (whole-node i)

@@ -21,6 +21,8 @@ pub use Rattle.heap_syntax.specs.DefinitionGrammar.{from_definition}
 unfoldable pub use Rattle.heap_syntax.specs.DefinitionGrammar.{term, uterm, terms, cases, definition, kept_definition}
 unfoldable pub use Rattle.heap_syntax.specs.DefinitionGrammar.{definitions}
 use Rattle.heap_syntax.specs.LineGrammar as commands
+pub use Rattle.heap_syntax.specs.EndGrammar.{ends_word}
+pub use Rattle.heap_syntax.specs.NumberedEnds.{end, kept_end, ends}
 use Rattle.heap_syntax.specs.declared.keep.Keep.{Keep}
 use Rattle.heap_syntax.specs.declared.version.Version.{Version}
 use Rattle.heap_syntax.specs.declared.definitions.tree.TermTree.{TermTree}
@@ -30,7 +32,8 @@ use Rattle.proof_syntax.specs.declared.tree.PairTree.{PairTree}
 use Rattle.proof_syntax.specs.declared.reason_word.ReasonWord.{ReasonWord}
 use Rattle.proof_syntax.specs.declared.reason_word.ReasonWord.TheVariants as words
 use Rattle.proof_syntax.specs.ReasonWords.{reason_text, reason_words, side_text, sides}
-use Rattle.proof_syntax.specs.Trees.{Heap, Line, Definition, Entailment, Judgement, Entails, From, LinkData, Reason}
+use Rattle.proof_syntax.specs.Trees.{Heap, Line, End, Definition, Entailment, Judgement, Entails, From, LinkData}
+use Rattle.proof_syntax.specs.Trees.{Reason}
 use Rattle.proof_syntax.specs.Trees.{Absurd, Rewrite, Split, Distinct, Weaken, Unfold, Cut, Done, Choose, PureRight}
 use Rattle.proof_syntax.specs.Trees.{Instantiate, Frame, UnfoldRight, Exec, Drop, Link, Node, File}
 
@@ -274,7 +277,8 @@ node = node_over judgement reason
 unfoldable pub kept_node : Keep → Syntax Node
 kept_node k = node_over (kept_judgement k) (kept_reason k)
 
--- ---- file = "cyclist" "proof" ( "1" | "2" ) ";" { pred } { line } node { node } "end" ";", and the end of the text
+-- ---- file = "cyclist" "proof" ( "1" | "2" | "3" ) ";" { pred } { line } { end } node { node } "end" ";", and the end
+-- of the text
 
 abbrev pub some_node : Node
 some_node = record {
@@ -290,18 +294,22 @@ more_nodes = many (is_one node_word) node
 unfoldable pub nodes : Syntax (List Node)
 nodes = shaped {A = Node × List Node} cons (uncons some_node) IsSome (seq node (before more_nodes last_word))
 
-abbrev pub to_file : (v : Version) × (List Definition × (List Line × List Node)) → File
-to_file p = record { version = p.0; definitions = p.1.0; lines = p.1.1.0; nodes = p.1.1.1 }
-
-abbrev pub from_file : File → (v : Version) × (List Definition × (List Line × List Node))
-from_file f = (f.version, (f.definitions, (f.lines, f.nodes)))
-
 -- what stands after the version
-abbrev pub contents : Version → Syntax (List Definition × (List Line × List Node))
-contents v = after semicolon (seq definitions (seq (lines v) (before nodes semicolon)))
+abbrev pub Contents : Type 0
+Contents = List Definition × (List Line × (List End × List Node))
+
+abbrev pub to_file : (v : Version) × Contents → File
+to_file p =
+    record { version = p.0; definitions = p.1.0; lines = p.1.1.0; ends = p.1.1.1.0; nodes = p.1.1.1.1 }
+
+abbrev pub from_file : File → (v : Version) × Contents
+from_file f = (f.version, (f.definitions, (f.lines, (f.ends, f.nodes))))
+
+abbrev pub contents : Version → Syntax Contents
+contents v = after semicolon (seq definitions (seq (lines v) (seq (ends v) (before nodes semicolon))))
 
 unfoldable pub body : Syntax File
-body = shaped {A = (v : Version) × (List Definition × (List Line × List Node))} to_file from_file Any
+body = shaped {A = (v : Version) × Contents} to_file from_file Any
     (after cyclist_word (after proof_word (headed version contents)))
 
 unfoldable pub file : Syntax File

@@ -1,5 +1,6 @@
 -- What is kept of nodes as they are read.
 pub use Rattle.heap_syntax.specs.DefinitionKeeping.{heap_front, heaps_front, definition_front}
+pub use Rattle.heap_syntax.specs.EndKeeping.{end_front}
 use Rattle.heap_syntax.specs.declared.keep.Keep.{Keep}
 use Rattle.proof_syntax.specs.Trees.{Entailment, Judgement, Entails, From, Reason, Absurd, Rewrite, Split, Distinct}
 use Rattle.proof_syntax.specs.Trees.{Weaken, Unfold, Cut, Done, Choose, PureRight, Instantiate, Frame, UnfoldRight}

@@ -3,6 +3,7 @@ use Rattle.std.specs.Prelude.{ℕ, List, map}
 use Rattle.heap_syntax.specs.declared.definitions.tree.TermTree.{TermTree}
 pub use Rattle.heap_syntax.specs.DefinitionTrees.{Cell, Predicate, PureTree, Spatial, Heap, Definition, spatial_of}
 pub use Rattle.heap_syntax.specs.DefinitionTrees.{heap_of, definition_of}
+pub use Rattle.heap_syntax.specs.NumberedEnds.{End, end_of}
 use Rattle.heap_syntax.specs.declared.version.Version.{Version}
 use Rattle.heap_syntax.specs.declared.lines.tree.LineTree.{LineTree}
 use Rattle.proof_syntax.specs.declared.tree.EntailmentTree.{EntailmentTree}
@@ -61,6 +62,7 @@ pub record File : Type 0 where
   pub version : Version
   pub definitions : List Definition
   pub lines : List Line
+  pub ends : List End
   pub nodes : List Node
 
 -- ---- what a contract sees of the code's trees
@@ -106,5 +108,6 @@ file_of f = record {
   version = f.version;
   definitions = map definition_of f.definitions.items;
   lines = f.lines.items;
+  ends = map end_of f.ends.items;
   nodes = map node_of f.nodes.items;
 }

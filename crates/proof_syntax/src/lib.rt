@@ -15,6 +15,6 @@ pub use line_lists::line;
 pub use read_files::{kept_node, read_tree};
 pub use reason_word::{ReasonWord, text_of_side};
 pub use tree::{
-    DefinitionTree, EntailmentTree, FileTree, HeapTree, JudgementTree, LineTree, LinkTree,
+    DefinitionTree, EndTree, EntailmentTree, FileTree, HeapTree, JudgementTree, LineTree, LinkTree,
     NodeTree, PairTree, PureTree, ReasonTree, SideTree, SpatialTree, TermTree,
 };

@@ -15,7 +15,7 @@ use crate::read_reasons::kept_reason;
 use crate::tree::{EntailmentTree, FileTree, HeapTree, JudgementTree, NodeTree};
 use cyc_grammar::{Cursor, Refusal, read_fault};
 use cyc_lex::{ReadFault, Token, Tokens};
-use heap_syntax::definitions::{definitions, kept_heap, kept_heaps};
+use heap_syntax::definitions::{definitions, ends, kept_heap, kept_heaps};
 use heap_syntax::{Keep, Mark, premises, read_version};
 use std::alloc::Global;
 
@@ -154,12 +154,14 @@ fn body<'a>(alloc: Global, cursor: &mut Cursor<'_, 'a>) -> Result<FileTree<'a>, 
     cursor.symbol(";")?;
     let definitions = definitions(alloc, cursor)?;
     let lines = lines(alloc, version, cursor)?;
+    let ends = ends(alloc, version, cursor)?;
     let nodes = nodes(alloc, cursor)?;
     cursor.symbol(";")?;
     Ok(FileTree {
         version,
         definitions,
         lines,
+        ends,
         nodes,
     })
 }

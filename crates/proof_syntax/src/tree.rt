@@ -1,7 +1,9 @@
 //! Trees of proof files: what a text of the grammar says, with lists of any length and numbers of at most nine digits.
 
 use heap_syntax::Version;
-pub use heap_syntax::definitions::{DefinitionTree, HeapTree, PureTree, SpatialTree, TermTree};
+pub use heap_syntax::definitions::{
+    DefinitionTree, EndTree, HeapTree, PureTree, SpatialTree, TermTree,
+};
 
 /// A line of the program; a program variable is the number after its `$`.
 pub type LineTree = heap_syntax::lines::LineTree<u32>;
@@ -79,5 +81,6 @@ pub struct FileTree<'a> {
     pub version: Version,
     pub definitions: Vec<DefinitionTree<'a>>,
     pub lines: Vec<LineTree>,
+    pub ends: Vec<EndTree<'a>>,
     pub nodes: Vec<NodeTree<'a>>,
 }

@@ -131,13 +131,13 @@ fn of_pick(pick: Option<Pick>) -> Offer {
 pub fn offers(
     alloc: Global,
     config: &Config,
-    command: Command,
+    command: &Command,
     addresses: Addresses,
 ) -> Result<Vec<Offer>, OutOfMemory> {
     match command {
         Command::New(_, count) => match addresses {
-            Addresses::Least => new_cells(alloc, config, count),
-            Addresses::Above => cell_above(alloc, config, count),
+            Addresses::Least => new_cells(alloc, config, *count),
+            Addresses::Above => cell_above(alloc, config, *count),
         },
         Command::IfAny(_) => {
             let jump = of_pick(Some(Pick::Jumps(true)));

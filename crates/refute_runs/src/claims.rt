@@ -14,9 +14,6 @@ use std::alloc::Global;
 /// The states that are reached from one in the first round.
 const STATES: u32 = 300;
 
-/// The work that it takes to reach a state.
-const WORK_PER_STATE: u32 = 5;
-
 /// The most states that are reached in search of a run that comes back with more.
 const MOST_GROWING: usize = 1_200;
 
@@ -27,6 +24,7 @@ const MOST_DEVIATIONS: u32 = 3;
 #[derive(Clone, Copy)]
 struct Runs<'a> {
     alloc: Global,
+    defs: &'a Defs,
     program: &'a Program,
     line: u32,
 }
@@ -56,34 +54,35 @@ impl<'a> Runs<'a> {
         })
     }
 
-    /// Runs from a model, with twice the states for each round of its age; and the rest of one that faults or comes
-    /// back, perhaps with more.
+    /// Runs from a model, with twice the states for each round of its age; and the rest of one that faults, breaks an
+    /// end, or comes back, perhaps with more.
     fn explore(
         &self,
         model: &Model,
         age: u32,
     ) -> Result<(Exploration<'a>, Option<Tail>), OutOfMemory> {
-        let (alloc, program) = (self.alloc, self.program);
+        let (alloc, defs, program) = (self.alloc, self.defs, self.program);
         let first = self.first_state(model)?;
         let again = first.clone()?;
         let deviations = age.min(MOST_DEVIATIONS);
         let states = doubled(STATES, age) as usize;
         let mut exploration = Exploration::new(
             alloc,
+            defs,
             program,
             first,
             Addresses::Least,
             deviations,
         )?;
-        let fault = exploration.fault(states)?;
-        if fault.is_some() {
-            return Ok((exploration, fault));
+        let failure = exploration.failure(states)?;
+        if failure.is_some() {
+            return Ok((exploration, failure));
         }
         let tail = repeat(alloc, &exploration)?;
         if tail.is_some() {
             return Ok((exploration, tail));
         }
-        let tail = growing_run(alloc, program, again, states.min(MOST_GROWING))?;
+        let tail = growing_run(alloc, defs, program, again, states.min(MOST_GROWING))?;
         Ok((exploration, tail))
     }
 
@@ -117,13 +116,14 @@ impl Inquiry for Runs<'_> {
         Ok(Look {
             verdict,
             is_whole: !exploration.is_cut,
-            work: exploration.count().saturating_mul(WORK_PER_STATE),
+            work: exploration.work(),
         })
     }
 }
 
-/// Searches in so many rounds for a run from a state that satisfies the precondition, at this line, which faults or
-/// comes back to a state where it was, or to one like it, with more. Each round does twice the work of the one before it.
+/// Searches in so many rounds for a run from a state that satisfies the precondition, at this line, which faults,
+/// stops at an end that does not hold, or comes back to a state where it was or to one like it, with more. Each round
+/// does twice the work of the one before it.
 pub fn faulty_run(
     alloc: Global,
     defs: &Defs,
@@ -135,6 +135,7 @@ pub fn faulty_run(
     let variables = bound_of_heap(precondition).min(65_535) as u16;
     let runs = Runs {
         alloc,
+        defs,
         program,
         line,
     };
@@ -154,7 +155,7 @@ pub fn faulty_run(
             cells: model.cells,
             steps: model.steps,
             picks: tail.picks,
-            ending: tail.ending,
+            finish: tail.finish,
         })),
         None => Ok(None),
     }

@@ -1,17 +1,27 @@
 // The states that runs from one state reach.
 use crate::choosing::{Addresses, Offer, offers};
-use crate::faulty_runs::{Tail, fields_of, made_picks, number_of};
+use crate::ends::{breaks, compared_at};
+use crate::faulty_runs::{Finish, Tail, fields_of, made_picks, number_of};
 use cyc_basics::memory::OutOfMemory;
 use general_models::runs::{Ending, Pick};
 use goto_lang::{Config, Program, Stepped, step};
-use heap_formula::{Command, Term};
+use heap_formula::{Command, Disjuncts};
 use indexmap::IndexSet;
+use pred_defs::Defs;
 use std::alloc::Global;
 
 /// The headroom of all runs, and the greatest number in a state.
 const HEADROOM: u64 = 4_294_967_296;
 
 const GREATEST: u64 = 4_611_686_018_427_387_904;
+
+/// The work that it takes to reach a state, and to ask whether it breaks an end.
+const WORK_PER_STATE: u32 = 5;
+
+const WORK_PER_END: u32 = 50;
+
+/// The most states of which it is asked whether they break an end.
+const MOST_ENDS: u32 = 100;
 
 /// Above this no numbers of states and steps are told.
 pub const MOST_COUNT: usize = 1_000_000_000;
@@ -35,17 +45,19 @@ pub struct Visit {
     pub steps: Vec<RunStep>,
 }
 
-/// States breadth first, each once, with their steps; the pairs of values that were compared and differ; and
-/// whether a state or a pick was left out.
+/// States breadth first, each once, with their steps; the pairs of values that were compared and differ; of how many
+/// states it was asked whether they break an end; and whether a state, a pick or such a question was left out.
 #[derive(Drop)]
 pub struct Exploration<'a> {
     alloc: Global,
+    defs: &'a Defs,
     program: &'a Program,
     keys: IndexSet<Vec<u64>>,
     pub visits: Vec<Visit>,
     addresses: Addresses,
     deviations: u32,
     pub compared: Vec<(u64, u64)>,
+    ends: u32,
     pub is_cut: bool,
 }
 
@@ -63,17 +75,11 @@ fn key_of(alloc: Global, config: &Config) -> Result<Vec<u64>, OutOfMemory> {
     Ok(key)
 }
 
-fn value_of(config: &Config, term: Term) -> u64 {
-    match term {
-        Term::Univ(n) => config.stack.get(n),
-        Term::Nil | Term::Exist(_) => 0,
-    }
-}
-
 impl<'a> Exploration<'a> {
     /// The first state alone. Of the picks on a way at most so many parts are not the usual ones.
     pub fn new(
         alloc: Global,
+        defs: &'a Defs,
         program: &'a Program,
         first: Config,
         addresses: Addresses,
@@ -91,12 +97,14 @@ impl<'a> Exploration<'a> {
         };
         Ok(Exploration {
             alloc,
+            defs,
             program,
             keys,
             visits: vec![in alloc; visit]?,
             addresses,
             deviations,
             compared: Vec::new(alloc),
+            ends: 0,
             is_cut: false,
         })
     }
@@ -104,6 +112,12 @@ impl<'a> Exploration<'a> {
     /// How many states were reached.
     pub fn count(&self) -> u32 {
         self.visits.len().min(MOST_COUNT) as u32
+    }
+
+    /// How much work it was.
+    pub fn work(&self) -> u32 {
+        let states = self.count().saturating_mul(WORK_PER_STATE);
+        states.saturating_add(self.ends.saturating_mul(WORK_PER_END))
     }
 
     /// The picks on the way to a state.
@@ -143,23 +157,21 @@ impl<'a> Exploration<'a> {
         }
     }
 
-    /// The command at a state.
-    fn command(&self, config: &Config) -> Command {
+    /// The command at a state; there is none past the last line.
+    fn command(&self, config: &Config) -> Option<&'a Command> {
         let place = (config.line as usize).saturating_sub(1);
-        match self.program.lines().get(place) {
-            Some(command) => *command,
-            None => Command::Stop,
-        }
+        self.program.lines().get(place)
     }
 
     fn note_compared(&mut self, number: usize) -> Result<(), OutOfMemory> {
         let Some(visit) = self.visits.get(number) else {
             return Ok(());
         };
-        if let Command::IfEq(t, u, _) | Command::IfNeq(t, u, _) = self.command(&visit.config) {
-            let (a, b) = (value_of(&visit.config, t), value_of(&visit.config, u));
-            let pair = (a.min(b), a.max(b));
-            if a != b && !self.compared.contains(&pair) {
+        let Some(command) = self.command(&visit.config) else {
+            return Ok(());
+        };
+        for pair in compared_at(self.alloc, &visit.config, command)? {
+            if !self.compared.contains(&pair) {
                 self.compared.push(pair)?;
             }
         }
@@ -209,39 +221,71 @@ impl<'a> Exploration<'a> {
     }
 
     fn offers_at(&self, number: usize) -> Result<Vec<Offer>, OutOfMemory> {
-        match self.visits.get(number) {
-            Some(visit) => {
-                let command = self.command(&visit.config);
-                offers(self.alloc, &visit.config, command, self.addresses)
-            }
+        let Some(visit) = self.visits.get(number) else {
+            return Ok(Vec::new(self.alloc));
+        };
+        match self.command(&visit.config) {
+            Some(command) => offers(self.alloc, &visit.config, command, self.addresses),
             None => Ok(Vec::new(self.alloc)),
         }
     }
 
-    /// The run that faults at a state.
-    fn fault_at(&self, number: usize) -> Result<Option<Tail>, OutOfMemory> {
-        let Some(visit) = self.visits.get(number) else {
-            return Ok(None);
+    /// The end of a state's line, if that is a `stop` with one.
+    fn end_at(&self, number: usize) -> Option<&'a Disjuncts> {
+        match self.command(&self.visits.get(number)?.config) {
+            Some(Command::Ends(ends)) => Some(ends),
+            _ => None,
+        }
+    }
+
+    /// Whether it is found out that the run stops at a state and breaks the end there.
+    fn breaks_end(&mut self, number: usize) -> Result<bool, OutOfMemory> {
+        let Some(ends) = self.end_at(number) else {
+            return Ok(false);
         };
+        if self.ends >= MOST_ENDS {
+            self.is_cut = true;
+            return Ok(false);
+        }
+        self.ends += 1;
+        match self.visits.get(number) {
+            Some(visit) => breaks(self.alloc, self.defs, &visit.config, ends),
+            None => Ok(false),
+        }
+    }
+
+    /// The run to a state, and how it ends there.
+    fn tail(&self, number: usize, finish: Finish) -> Result<Option<Tail>, OutOfMemory> {
         Ok(Some(Tail {
             picks: self.picks_to(number)?,
-            ending: Ending::FaultAfter(visit.depth),
+            finish,
         }))
     }
 
-    /// Makes the steps of a state; a run that faults, if there is one.
+    fn depth(&self, number: usize) -> u32 {
+        match self.visits.get(number) {
+            Some(visit) => visit.depth,
+            None => 0,
+        }
+    }
+
+    /// Makes the steps of a state; a run that faults or breaks an end there, if there is one.
     fn visit(&mut self, number: usize) -> Result<Option<Tail>, OutOfMemory> {
+        let depth = self.depth(number);
         self.note_compared(number)?;
+        if self.breaks_end(number)? {
+            return self.tail(number, Finish::BreaksEnd(depth));
+        }
         for offer in self.offers_at(number)? {
             if self.take(number, offer)? {
-                return self.fault_at(number);
+                return self.tail(number, Finish::Refutes(Ending::FaultAfter(depth)));
             }
         }
         Ok(None)
     }
 
-    /// Goes on until so many states were reached; a run that faults, if there is one.
-    pub fn fault(&mut self, most: usize) -> Result<Option<Tail>, OutOfMemory> {
+    /// Goes on until so many states were reached; a run that faults or breaks an end, if there is one.
+    pub fn failure(&mut self, most: usize) -> Result<Option<Tail>, OutOfMemory> {
         for number in 0..most {
             if number >= self.visits.len() {
                 return Ok(None);

@@ -1,4 +1,4 @@
-// Runs that show that a program may fault or run for ever.
+// Runs that show that a program may fault, run for ever, or stop where its end does not hold.
 use cyc_basics::memory::OutOfMemory;
 use general_models::derivations::CaseStep;
 use general_models::runs::{Ending, Pick};
@@ -21,6 +21,13 @@ pub fn fields_of(pick: &Pick) -> &[u64] {
     }
 }
 
+/// How a run ends: it faults or comes back; or after so many steps it stops at an end that its state does not satisfy.
+#[derive(Drop)]
+pub enum Finish {
+    Refutes(Ending),
+    BreaksEnd(u32),
+}
+
 /// A run: the values of the program's variables and of the precondition's in its first state, the heap there, the
 /// derivation that these satisfy the precondition, and what was picked at each `new` and each `if *`, in order.
 #[derive(Drop)]
@@ -29,14 +36,14 @@ pub struct FaultyRun {
     pub cells: Vec<Cell>,
     pub steps: Vec<CaseStep>,
     pub picks: Vec<Pick>,
-    pub ending: Ending,
+    pub finish: Finish,
 }
 
-/// The picks and the end of a run whose first state is known.
+/// The picks of a run whose first state is known, and how it ends.
 #[derive(Drop)]
 pub struct Tail {
     pub picks: Vec<Pick>,
-    pub ending: Ending,
+    pub finish: Finish,
 }
 
 /// Copies of the picks that were made.

@@ -1,12 +1,13 @@
 // Runs that come back to a state like one before, with more.
 use crate::choosing::Addresses;
 use crate::exploring::Exploration;
-use crate::faulty_runs::Tail;
+use crate::faulty_runs::{Finish, Tail};
 use crate::pairing::pairs_between;
 use cyc_basics::memory::OutOfMemory;
 use general_models::runs::{Ending, Growth, Renaming, ValuePair};
 use goto_lang::{Config, Program};
 use heap_formula::Command;
+use pred_defs::Defs;
 use std::alloc::Global;
 
 /// How many steps back a state is sought that another is like.
@@ -31,11 +32,11 @@ fn tail(
 ) -> Result<Tail, OutOfMemory> {
     Ok(Tail {
         picks: exploration.picks_to(number)?,
-        ending: Ending::Grow(Growth {
+        finish: Finish::Refutes(Ending::Grow(Growth {
             first,
             again,
             renaming: Renaming::from_vec(pairs),
-        }),
+        })),
     })
 }
 
@@ -67,6 +68,7 @@ fn growth_at(
 /// A run that comes back with more, of at most so many states, whose new cells are all fresh and of nil.
 pub fn growing_run(
     alloc: Global,
+    defs: &Defs,
     program: &Program,
     first: Config,
     most: usize,
@@ -74,10 +76,10 @@ pub fn growing_run(
     if !takes_cells(program) {
         return Ok(None);
     }
-    let mut exploration = Exploration::new(alloc, program, first, Addresses::Above, 0)?;
-    let fault = exploration.fault(most)?;
-    if fault.is_some() {
-        return Ok(fault);
+    let mut exploration = Exploration::new(alloc, defs, program, first, Addresses::Above, 0)?;
+    let failure = exploration.failure(most)?;
+    if failure.is_some() {
+        return Ok(failure);
     }
     for number in 1..exploration.visits.len() {
         let tail = growth_at(alloc, &exploration, number)?;

@@ -1,6 +1,6 @@
 // Runs that come back to a state.
 use crate::exploring::{Exploration, MOST_COUNT};
-use crate::faulty_runs::{Tail, made_picks};
+use crate::faulty_runs::{Finish, Tail, made_picks};
 use cyc_basics::memory::OutOfMemory;
 use general_models::runs::{Ending, Pick};
 use std::alloc::Global;
@@ -117,10 +117,10 @@ fn tail(alloc: Global, live: &Live<'_>, first: usize) -> Result<Option<Tail>, Ou
             let depth = visit.depth;
             return Ok(Some(Tail {
                 picks,
-                ending: Ending::Repeat(
+                finish: Finish::Refutes(Ending::Repeat(
                     depth.saturating_add(place.min(MOST_COUNT) as u32),
                     depth.saturating_add(made.len().min(MOST_COUNT) as u32),
-                ),
+                )),
             }));
         }
         numbers.push(at)?;

@@ -20,6 +20,7 @@ use Rattle.cyc_grammar.specs.Classes.{is_free_name}
 use Rattle.heap_syntax.specs.Words.{reserved}
 use Rattle.heap_syntax.specs.Grammar as shared
 use Rattle.heap_syntax.specs.LineGrammar as commands
+use Rattle.heap_syntax.specs.EndGrammar as end_grammar
 use Rattle.proof_syntax.specs.Trees.{Node as NodeTree}
 use Rattle.proof_syntax.specs.Grammar as grammar
 use Rattle.heap_syntax.specs.declared.version.Version.TheVariants.{One}
@@ -271,7 +272,7 @@ module _ (k : ℕ) (one : 1 ≤ k) (few : k ≤ 2000) where
   some_fit (y ∷ ys) some h = (some, (h.0, h.1))
 
   pub file_fits : grammar.file.fits (tree_of One ds [] (map file_node (ring_nodes k)))
-  unfolding grammar.file grammar.body grammar.definitions commands.lines
+  unfolding grammar.file grammar.body grammar.definitions commands.lines end_grammar.ends
   file_fits =
       let long = blocks_long (ring_block k) (ring_bud k) (λ j. refl) 0 k in
       let nodes = many_fit (ring_nodes k) (each_node NodeFits k block_fits bud_fits) in (
@@ -282,13 +283,16 @@ module _ (k : ℕ) (one : 1 ≤ k) (few : k ≤ 2000) where
             definitions_fit 0 k (omega arith),
             (
               tt,
-              some_fit (map (node_tree ds) (map file_node (ring_nodes k)))
-                  (omega (
-                    arith,
-                    long,
-                    length-map (ring_nodes k) file_node,
-                    length-map (map file_node (ring_nodes k)) (node_tree ds),
-                  )) nodes,
+              (
+                (tt, tt),
+                some_fit (map (node_tree ds) (map file_node (ring_nodes k)))
+                    (omega (
+                      arith,
+                      long,
+                      length-map (ring_nodes k) file_node,
+                      length-map (map file_node (ring_nodes k)) (node_tree ds),
+                    )) nodes,
+              ),
             ),
           ),
         ),

@@ -14,6 +14,7 @@ use Rattle.ring_family.proofs.TextSizes.{spaced_word, spaced_words, text_short}
 use Rattle.cyc_grammar.specs.Syntax.{words_many}
 use Rattle.heap_syntax.specs.Grammar as shared
 use Rattle.heap_syntax.specs.LineGrammar as commands
+use Rattle.heap_syntax.specs.EndGrammar as end_grammar
 use Rattle.proof_syntax.specs.Trees.{Definition as DefinitionTree, Node as NodeTree}
 use Rattle.proof_syntax.specs.Grammar as grammar
 use Rattle.heap_syntax.specs.declared.version.Version.TheVariants.{One}
@@ -163,9 +164,9 @@ module _ (k : ℕ) (one : 1 ≤ k) (few : k ≤ 2000) where
       )
 
   body_short : (defs : List DefinitionTree) (ns : List NodeTree) → 0 < length ns
-      → spaced_words (grammar.body.words (record { version = One; definitions = defs; lines = []; nodes = ns }))
+      → spaced_words (grammar.body.words (record { version = One; definitions = defs; lines = []; ends = []; nodes = ns }))
       ≡ spaced_words (words_many grammar.definition defs) + spaced_words (words_many grammar.node ns) + 24
-  unfolding grammar.body grammar.definitions commands.lines
+  unfolding grammar.body grammar.definitions commands.lines end_grammar.ends
   body_short defs ns some =
       let front = grammar.cyclist_word.word tt ∷ grammar.proof_word.word tt ∷ grammar.version.word One
       ∷ grammar.semicolon.word tt ∷ [] in

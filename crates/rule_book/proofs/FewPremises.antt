@@ -8,8 +8,8 @@ use Rattle.heap_formula.specs.declared.proof_rules.Reason.TheVariants.{Step, Bac
 use Rattle.heap_formula.specs.declared.proof_rules.RuleFault.{RuleFault}
 use Rattle.heap_formula.specs.Definitions.{Definition, HasFewCases}
 use Rattle.heap_formula.specs.Words.{Each}
-use Rattle.rule_table.specs.RuleBook.{variables_of}
-use Rattle.rule_table.specs.LinkTable.{link_fault, link_premise}
+use Rattle.rule_table.specs.RuleBook.{program_link_fault}
+use Rattle.rule_table.specs.LinkTable.{link_premise}
 use Rattle.rule_book.specs.Answers.{unless_fault, reason_answer}
 use Rattle.rule_table.proofs.FewPremises.{IsFew, rule_few}
 
@@ -18,7 +18,7 @@ pub reason_few : (most : Limits) (ds : List Definition) (lines : List Command) �
     → IsFew (reason_answer most ds lines j reason companion)
 reason_few most ds lines h j (Step rule) companion = rule_few most ds lines h j rule
 reason_few most ds lines h j (Back link) None = tt
-reason_few most ds lines h j (Back link) (Some k) = by_fault (link_fault j k link (variables_of lines j))
+reason_few most ds lines h j (Back link) (Some k) = by_fault (program_link_fault lines j k link)
   where
     by_fault : (f : Option RuleFault) → IsFew (unless_fault f (link_premise k link))
     by_fault None = omega arith

@@ -1,5 +1,5 @@
 -- The lines of premises: every rule but Exec keeps the line.
-use Rattle.std.proofs.Common.{ℕ, Bool, true, false, cond, List, [], ◌∷◌, map, length, subst}
+use Rattle.std.proofs.Common.{ℕ, Bool, true, false, not, cond, List, [], ◌∷◌, map, length, subst}
 use Rattle.std.specs.Prelude.{max, nat_eq, if◌then◌else◌, slice_get, Result, Ok, Err, Vec, IfOk}
 use Rattle.std.specs.declared.alloc.Global.{Global}
 use Rattle.cyc_basics.specs.declared.limits.Limits.{Limits}
@@ -20,12 +20,14 @@ use Rattle.heap_formula.specs.declared.proof_rules.Rule.TheVariants.{UnfoldRight
 use Rattle.heap_formula.specs.declared.proof_rules.RuleError.{RuleError}
 use Rattle.heap_formula.specs.declared.proof_rules.RuleFault.TheVariants.{NoSuchAtom, AtomsDiffer, HasExistential}
 use Rattle.heap_formula.specs.declared.proof_rules.RuleFault.TheVariants.{NotFollowing, NotAbsurd, NoSuchCase, NoCell}
+use Rattle.heap_formula.specs.declared.proof_rules.RuleFault.TheVariants.{WrongJudgement}
 use Rattle.heap_formula.specs.declared.proof_rules.Side.{Side}
 use Rattle.heap_formula.specs.Definitions.{Definition}
 use Rattle.heap_formula.specs.Fresh.{fresh_number, heap_bound, heap_exists}
 use Rattle.heap_formula.specs.Judgements.{antecedent, with_antecedent}
 use Rattle.heap_formula.specs.Meaning.{cases_of}
 use Rattle.heap_formula.specs.Positions.{without}
+use Rattle.heap_formula.specs.Programs.{has_ends}
 use Rattle.heap_formula.specs.Substitution.{Bindings, apply_judgement, in_heap}
 use Rattle.heap_formula.specs.Symbolic.{SymbolicHeap}
 use Rattle.heap_formula.specs.Words.{Each}
@@ -167,7 +169,8 @@ rule_lines most ds lines j (UnfoldRight k c) p h =
     single_on (Q (length lines)) j _ (λ a b. finds_on (P (length lines)) (slice_get b.spatial k) NoSuchAtom _
     (λ x at. right_lines (length lines) most ds a b k c x))
 rule_lines most ds lines j Exec p h = at_lines (length lines) (exec_answer most lines j) (answer_lines most lines j p)
-rule_lines most ds lines j (Drop k) p h = drop_lines (length lines) j k h
+rule_lines most ds lines j (Drop k) p h =
+    needs_on (P (length lines)) (not (has_ends lines)) WrongJudgement _ (λ _. drop_lines (length lines) j k h)
 
 pub answer_within : (most : Limits) (ds : List Definition) (lines : List Command) (j : Judgement) (rule : Rule)
     (r : Result (Vec Premise Global) RuleError) → IsProgram lines → IsAnswer r (rule_answer most ds lines j rule)

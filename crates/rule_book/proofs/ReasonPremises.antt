@@ -16,7 +16,7 @@ use Rattle.rule_table.specs.RuleBook.{rule_answer}
 use Rattle.rule_table.specs.Soundness.{HasUniversalTerms, IsUniversalPremise}
 use Rattle.rule_table.proofs.Keeps.{rule_keeps}
 use Rattle.symbolic_exec.proofs.ProgramLines.{program_commands}
-use Rattle.rule_book.specs.Limits.{IsJudgementWithin, IsPremiseWithin, IsDefinitionWithin, IsRuleWithin}
+use Rattle.rule_book.specs.Limits.{IsJudgementWithin, IsPremiseWithin, IsDefinitionWithin, IsRuleWithin, AreEndsWithin}
 use Rattle.rule_book.proofs.Judgements.{IsNearly}
 use Rattle.rule_book.proofs.Within.{rule_nearly}
 
@@ -35,11 +35,11 @@ all_within most ds n (p ∷ ps) h u = (
 
 pub premises_within : (most : Limits) (ds : List Definition) (lines : List Command) (j : Judgement) (rule : Rule)
     (ps : List Premise) → Each (IsDefinitionWithin most ds) ds → IsProgram lines
-    → IsJudgementWithin most ds (length lines) j → IsRuleWithin most ds rule → rule_answer most ds lines j rule ≡ Ok ps
+    → AreEndsWithin most ds lines → IsJudgementWithin most ds (length lines) j → IsRuleWithin most ds rule → rule_answer most ds lines j rule ≡ Ok ps
     → Each (IsPremiseWithin most ds (length lines)) ps
-premises_within most ds lines j rule ps d g h r e =
+premises_within most ds lines j rule ps d g w h r e =
     let near = subst (λ (answer : Answer). OnPremises (IsNearly most ds (length lines)) answer) e
-    (rule_nearly most ds lines j rule d g h r) in
+    (rule_nearly most ds lines j rule d g w h r) in
     let universal = subst (λ (answer : Answer). OnPremises IsUniversalPremise answer) e
     (rule_keeps most ds lines j rule h.universal (program_commands lines g) (universal_terms most ds rule r)) in
     all_within most ds (length lines) ps near universal

@@ -1,6 +1,6 @@
 -- The numbers that a rule or a link names are short.
 use Rattle.std.proofs.Common.{◌≡◌, ℕ, suc, ◌<◌, ◌≤◌, Bool, true, ◌&&◌, List, [], ◌∷◌, map, length, Some, None, subst}
-use Rattle.std.proofs.Common.{arith, ltb-true}
+use Rattle.std.proofs.Common.{arith, ltb-true, not}
 use Rattle.std.proofs.lemmas.Option.{slice_get_within}
 use Rattle.std.specs.Prelude.{Ok, Err, nat_eq, nat_le, nat_lt, slice_get}
 use Rattle.cyc_basics.specs.declared.limits.TheConstants.{MOST_PURE}
@@ -19,12 +19,13 @@ use Rattle.heap_formula.specs.declared.proof_rules.Rule.TheVariants.{Rewrite, Di
 use Rattle.heap_formula.specs.declared.proof_rules.Rule.TheVariants.{PureRight, Frame, UnfoldRight, Drop}
 use Rattle.heap_formula.specs.declared.proof_rules.RuleFault.{RuleFault}
 use Rattle.heap_formula.specs.declared.proof_rules.RuleFault.TheVariants.{NoSuchAtom, NoSuchCase, LineDiffers}
-use Rattle.heap_formula.specs.declared.proof_rules.RuleFault.TheVariants.{LinkProgramVariable}
+use Rattle.heap_formula.specs.declared.proof_rules.RuleFault.TheVariants.{LinkProgramVariable, WrongJudgement}
 use Rattle.heap_formula.specs.Definitions.{Definition}
 use Rattle.heap_formula.specs.Fresh.{heap_exists}
 use Rattle.heap_formula.specs.Judgements.{antecedent}
 use Rattle.heap_formula.specs.Meaning.{cases_of}
 use Rattle.heap_formula.specs.Substitution.{in_heap, apply_spatial, apply_heap}
+use Rattle.heap_formula.specs.Programs.{has_ends}
 use Rattle.heap_formula.specs.Symbolic.{SymbolicHeap}
 use Rattle.heap_formula.specs.Words.{Each}
 use Rattle.rule_table.specs.Answer.{Answer, finds, limited, one}
@@ -136,10 +137,11 @@ module _ (most : Limits) (bounded : AreLimits most) (ds : List Definition) (line
         (short_at b.spatial k x at (omega (arith, bounded.spatial)), right_short most bounded ds ps a b k c x d e)))
     rule_short (Drop k) =
         let X = IsShortNumber k in
+        needs_gives (Gives X ps) (no_answer X ps) (not (has_ends lines)) WrongJudgement _ (λ none.
         runs_gives (Gives X ps) (no_answer X ps) j _ (λ i a is.
         finds_gives (Gives X ps) (no_answer X ps) (slice_get a.spatial k) NoSuchAtom _ (λ x at e.
         let few = (small most ds a (same (Runs i a) is).heaps.0).spatials in
-        short_at a.spatial k x at (omega (arith, bounded.spatial))))
+        short_at a.spatial k x at (omega (arith, bounded.spatial)))))
     rule_short rule = λ e. tt
 
 -- ---- links

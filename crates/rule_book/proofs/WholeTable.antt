@@ -1,5 +1,5 @@
 -- The answers of the table are sound, and keep antecedents without existentials.
-use Rattle.std.proofs.Common.{◌≢◌, ℕ, List, refl, subst}
+use Rattle.std.proofs.Common.{ℕ, List, not, subst}
 use Rattle.std.specs.Prelude.{Result, Ok, Err, Vec, IfOk}
 use Rattle.std.specs.declared.alloc.Global.{Global}
 use Rattle.cyc_basics.specs.declared.limits.Limits.{Limits}
@@ -27,30 +27,34 @@ use Rattle.rule_table.proofs.LeftRules.{weaken_is_sound, unfold_is_sound, cut_is
 use Rattle.rule_table.proofs.RightRules.{done_is_sound, choose_is_sound, pure_right_is_sound, instantiate_is_sound}
 use Rattle.rule_table.proofs.RightRules.{frame_is_sound, unfold_right_is_sound}
 use Rattle.rule_table.proofs.Keeps.{rule_keeps}
+use Rattle.rule_table.proofs.Steps.{needs_sound}
+use Rattle.rule_book.specs.Lines.{SuitsProgram}
+use Rattle.heap_formula.specs.Programs.{has_ends}
+use Rattle.heap_formula.specs.declared.proof_rules.RuleFault.TheVariants.{WrongJudgement}
 use Rattle.symbolic_exec.proofs.ProgramLines.{program_commands}
 
--- every rule but Exec, for any program with no more variables
+-- the rules at any program that they suit, with no more variables
 elsewhere : (most : Limits) (ds : List Definition) (program lines : List Command) (j : Judgement) (rule : Rule)
-    → rule ≢ Exec
-    → HasVariables lines (variables_of program j) j → IsUniversalHeap (antecedent j)
+    → SuitsProgram lines rule → HasVariables lines (variables_of program j) j → IsUniversalHeap (antecedent j)
     → IsSound ds lines j (rule_answer most ds program j rule)
-elsewhere most ds program lines j Absurd other v u = absurd_is_sound ds lines j
-elsewhere most ds program lines j (Rewrite k side) other v u = rewrite_is_sound ds lines (variables_of program j)
+elsewhere most ds program lines j Absurd suits v u = absurd_is_sound ds lines j
+elsewhere most ds program lines j (Rewrite k side) suits v u = rewrite_is_sound ds lines (variables_of program j)
     j k side u
-elsewhere most ds program lines j (Split t w) other v u = split_is_sound ds lines most j t w
-elsewhere most ds program lines j (Distinct i k) other v u = distinct_is_sound ds lines most j i k
-elsewhere most ds program lines j (Weaken k) other v u = weaken_is_sound ds lines j k
-elsewhere most ds program lines j (Unfold k) other v u = unfold_is_sound ds lines most (variables_of program j) j k v
-elsewhere most ds program lines j (Cut places f) other v u = cut_is_sound ds lines most (variables_of program j)
+elsewhere most ds program lines j (Split t w) suits v u = split_is_sound ds lines most j t w
+elsewhere most ds program lines j (Distinct i k) suits v u = distinct_is_sound ds lines most j i k
+elsewhere most ds program lines j (Weaken k) suits v u = weaken_is_sound ds lines j k
+elsewhere most ds program lines j (Unfold k) suits v u = unfold_is_sound ds lines most (variables_of program j) j k v
+elsewhere most ds program lines j (Cut places f) suits v u = cut_is_sound ds lines most (variables_of program j)
     j places f v
-elsewhere most ds program lines j Done other v u = done_is_sound ds lines j
-elsewhere most ds program lines j (Choose k) other v u = choose_is_sound ds lines j k
-elsewhere most ds program lines j (PureRight k) other v u = pure_right_is_sound ds lines j k
-elsewhere most ds program lines j (Instantiate n t) other v u = instantiate_is_sound ds lines j n t
-elsewhere most ds program lines j (Frame i k) other v u = frame_is_sound ds lines j i k
-elsewhere most ds program lines j (UnfoldRight k n) other v u = unfold_right_is_sound ds lines most j k n
-elsewhere most ds program lines j Exec other v u = absurd (other refl)
-elsewhere most ds program lines j (Drop k) other v u = drop_is_sound ds lines j k
+elsewhere most ds program lines j Done suits v u = done_is_sound ds lines j
+elsewhere most ds program lines j (Choose k) suits v u = choose_is_sound ds lines j k
+elsewhere most ds program lines j (PureRight k) suits v u = pure_right_is_sound ds lines j k
+elsewhere most ds program lines j (Instantiate n t) suits v u = instantiate_is_sound ds lines j n t
+elsewhere most ds program lines j (Frame i k) suits v u = frame_is_sound ds lines j i k
+elsewhere most ds program lines j (UnfoldRight k n) suits v u = unfold_right_is_sound ds lines most j k n
+elsewhere most ds program lines j Exec suits v u = absurd suits
+elsewhere most ds program lines j (Drop k) suits v u =
+    needs_sound ds lines j (not (has_ends program)) WrongJudgement _ (λ _. drop_is_sound ds lines suits j k)
 
 module _ (most : Limits) (ds : List Definition) (program : List Command) (j : Judgement) (rule : Rule) where
   pub answer_sound : (r : Result (Vec Premise Global) RuleError) → IsProgram program
@@ -62,7 +66,7 @@ module _ (most : Limits) (ds : List Definition) (program : List Command) (j : Ju
 
   pub answer_sound_elsewhere : (r : Result (Vec Premise Global) RuleError)
       → IsAnswer r (rule_answer most ds program j rule) → IfOk r
-      (λ v. (lines : List Command) → rule ≢ Exec → HasVariables lines (variables_of program j) j
+      (λ v. (lines : List Command) → SuitsProgram lines rule → HasVariables lines (variables_of program j) j
       → IsUniversalHeap (antecedent j) → IsLocallySound ds lines j v.items)
   answer_sound_elsewhere (Ok v) is = λ lines other h u.
       subst (λ (x : Answer). IsSound ds lines j x) is (elsewhere most ds program lines j rule other h u)

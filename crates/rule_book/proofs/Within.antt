@@ -1,6 +1,6 @@
 -- Rule by rule: the heaps of the premises are within the limits, and so is their form.
 use Rattle.std.proofs.Common.{◌≡◌, ℕ, zero, suc, ◌+◌, ◌-◌, ◌<◌, ◌≤◌, max, Bool, true, false, cond, List, [], ◌∷◌, map}
-use Rattle.std.proofs.Common.{length, length-set, Some, refl, subst, arith}
+use Rattle.std.proofs.Common.{length, length-set, not, Some, refl, subst, arith}
 use Rattle.std.proofs.lemmas.List.{length-map}
 use Rattle.std.specs.Prelude.{Ok, Err, nat_eq, nat_le, if◌then◌else◌, slice_get, slice_set}
 use Rattle.cyc_basics.specs.declared.limits.Limits.{Limits}
@@ -12,7 +12,7 @@ use Rattle.heap_formula.specs.declared.atoms.Spatial.{Spatial}
 use Rattle.heap_formula.specs.declared.atoms.Spatial.TheVariants.{Cell, Pred}
 use Rattle.heap_formula.specs.declared.commands.Command.{Command}
 use Rattle.heap_formula.specs.declared.commands.Command.TheVariants.{Assign, Load, Store, New, Free, IfEq, IfNeq, IfAny}
-use Rattle.heap_formula.specs.declared.commands.Command.TheVariants.{Goto, Stop}
+use Rattle.heap_formula.specs.declared.commands.Command.TheVariants.{Goto, Stop, Ends}
 use Rattle.heap_formula.specs.declared.judgements.Judgement.{Judgement}
 use Rattle.heap_formula.specs.declared.judgements.Judgement.TheVariants.{Entail, Term as Runs}
 use Rattle.heap_formula.specs.declared.judgements.Premise.{Premise}
@@ -32,7 +32,7 @@ use Rattle.heap_formula.specs.Fresh.{fresh_number, heap_bound, heap_exists, vari
 use Rattle.heap_formula.specs.Judgements.{antecedent}
 use Rattle.heap_formula.specs.Meaning.{cases_of}
 use Rattle.heap_formula.specs.Positions.{without, kept_pairs, chosen, others_of}
-use Rattle.heap_formula.specs.Programs.{counted_from_one, program_variables}
+use Rattle.heap_formula.specs.Programs.{counted_from_one, program_variables, has_ends}
 use Rattle.heap_formula.specs.Substitution.{in_heap, apply_term, apply_pure, apply_spatial, apply_judgement, case_term}
 use Rattle.heap_formula.specs.Substitution.{case_body, opened_term}
 use Rattle.heap_formula.specs.Symbolic.{SymbolicHeap}
@@ -49,9 +49,11 @@ use Rattle.rule_table.specs.Table.{with_pures, with_pure, with_right, without_pu
 use Rattle.rule_table.specs.Table.{rewrite_side, rewrite_atom, named, unnamed, calls, instance_term, right_term}
 use Rattle.rule_table.specs.Tests.{same_term, same_spatial, is_universal_pure, is_universal_spatial, follows, is_absurd}
 use Rattle.rule_table.specs.Tests.{address_of, ascend_from, has_number}
-use Rattle.rule_table.proofs.Commands.{found_is}
+use Rattle.rule_table.proofs.Commands.{found_is, counted_get}
+use Rattle.rule_table.proofs.Fits.{limited_on}
 use Rattle.rule_table.proofs.Rewrites.{Each-without}
 use Rattle.rule_book.specs.Limits.{IsHeapWithin, IsJudgementWithin, IsCaseWithin, IsDefinitionWithin, IsRuleWithin}
+use Rattle.rule_book.specs.Limits.{IsCommandWithin, AreEndsWithin}
 use Rattle.rule_book.proofs.Gives.{needs_gives, finds_gives, entails_gives, single_gives, runs_gives}
 use Rattle.rule_book.proofs.Heaps.{length-without, IsLow, IsShaped, IsSmall, small, within, within_after, shapes_after}
 use Rattle.rule_book.proofs.Heaps.{low_pures_after, low_spatials_after}
@@ -316,32 +318,33 @@ module _ (most : Limits) (ds : List Definition) (n : ℕ) where
     new_shaped x k some few =
         let e = length-variables_from (m + 1) k in (refl, (omega arith, omega arith))
 
-    command_nearly : (c : Command) → MayStandAt n i c → OnPremises P (command_answer most i a m c)
-    command_nearly Stop l = tt
-    command_nearly (Goto j) l = limited_nearly most ds n (one (at_line j a a)) (state_ready j a l shaped, tt)
-    command_nearly (IfEq t u j) l =
+    command_nearly : (c : Command) → MayStandAt n i c → IsCommandWithin most ds c → OnPremises P (command_answer most i a m c)
+    command_nearly Stop l w = tt
+    command_nearly (Ends bs) l w = limited_on P most (one (with_right a bs)) (((h, w.0), (w.1, w.2)), tt)
+    command_nearly (Goto j) l w = limited_nearly most ds n (one (at_line j a a)) (state_ready j a l shaped, tt)
+    command_nearly (IfEq t u j) l w =
         limited_nearly most ds n (two (at_line j a (with_atom a (Eq t u)))
         (at_line (i + 1) a (with_atom a (Neq t u)))) (
           state_ready j (with_atom a (Eq t u)) l.1 shaped,
           (state_ready (i + 1) (with_atom a (Neq t u)) (next l.0) shaped, tt),
         )
-    command_nearly (IfNeq t u j) l =
+    command_nearly (IfNeq t u j) l w =
         limited_nearly most ds n (two (at_line j a (with_atom a (Neq t u)))
         (at_line (i + 1) a (with_atom a (Eq t u)))) (
           state_ready j (with_atom a (Neq t u)) l.1 shaped,
           (state_ready (i + 1) (with_atom a (Eq t u)) (next l.0) shaped, tt),
         )
-    command_nearly (IfAny j) l =
+    command_nearly (IfAny j) l w =
         limited_nearly most ds n (two (at_line j a a) (at_line (i + 1) a a))
         (state_ready j a l.1 shaped, (state_ready (i + 1) a (next l.0) shaped, tt))
-    command_nearly (Assign x t) l =
+    command_nearly (Assign x t) l w =
         limited_nearly most ds n (one (at_line (i + 1) a
         (with_atom (renamed x m a) (Eq (Univ x) (renamed_term x m t))))) (
           state_ready (i + 1) (with_atom (renamed x m a) (Eq (Univ x) (renamed_term x m t))) (next l)
               (renamed_shaped x),
           tt,
         )
-    command_nearly (Load x t k) l =
+    command_nearly (Load x t k) l w =
         finds_gives (OnPremises P) bad (cell_of a.pure t a.spatial) NoCell _ (λ c found.
         finds_gives (OnPremises P) bad (counted_from_one c.fields k) NoCell _ (λ f field.
         limited_nearly most ds n (one (at_line (i + 1) a
@@ -350,7 +353,7 @@ module _ (most : Limits) (ds : List Definition) (n : ℕ) where
               (renamed_shaped x),
           tt,
         )))
-    command_nearly (Store t k u) l =
+    command_nearly (Store t k u) l w =
         finds_gives (OnPremises P) bad (cell_of a.pure t a.spatial) NoCell _ (λ c found.
         finds_gives (OnPremises P) bad (counted_from_one c.fields k) NoCell _ (λ f field.
         limited_nearly most ds n (one (at_line (i + 1) a (with_field a c k u))) (
@@ -359,14 +362,14 @@ module _ (most : Limits) (ds : List Definition) (n : ℕ) where
               (field_shaped c (k - 1) u (cell_shaped t c found)) shaped),
           tt,
         )))
-    command_nearly (New x k) l =
+    command_nearly (New x k) l w =
         limited_nearly most ds n (one (at_line (i + 1) a (with_cell (renamed x m a) x (variables_from (m + 1) k)))) (
           state_ready (i + 1) (with_cell (renamed x m a) x (variables_from (m + 1) k)) (next l.0)
               (each_append Shaped (renamed x m a).spatial (Cell (Univ x) (variables_from (m + 1) k) ∷ [])
               (renamed_shaped x) (new_shaped x k l.1.0 l.1.1, tt)),
           tt,
         )
-    command_nearly (Free t) l =
+    command_nearly (Free t) l w =
         finds_gives (OnPremises P) bad (cell_of a.pure t a.spatial) NoCell _ (λ c found.
         limited_nearly most ds n (one (record {
           judgement = Runs (i + 1) (without_spatial c.place a);
@@ -383,9 +386,10 @@ module _ (most : Limits) (ds : List Definition) (n : ℕ) where
         ))
 
 pub rule_nearly : (most : Limits) (ds : List Definition) (lines : List Command) (j : Judgement) (rule : Rule)
-    → Each (IsDefinitionWithin most ds) ds → IsProgram lines → IsJudgementWithin most ds (length lines) j
+    → Each (IsDefinitionWithin most ds) ds → IsProgram lines → AreEndsWithin most ds lines
+    → IsJudgementWithin most ds (length lines) j
     → IsRuleWithin most ds rule → OnPremises (IsNearly most ds (length lines)) (rule_answer most ds lines j rule)
-rule_nearly most ds lines j rule d g h = by rule
+rule_nearly most ds lines j rule d g ends h = by rule
   where
     n : ℕ
     n = length lines
@@ -483,8 +487,9 @@ rule_nearly most ds lines j rule d g h = by rule
         runs_gives S faulty j _ (λ i a e.
         finds_gives S faulty (counted_from_one lines i) WrongJudgement _ (λ c at.
         let w = same (Runs i a) e in command_nearly most ds n i a (fresh_number (program_variables lines) j) w.heaps.0 c
-        (g.commands i c at)))
+        (g.commands i c at) (counted_get (IsCommandWithin most ds) lines i c at ends)))
     by (Drop k) r =
+        needs_gives S faulty (not (has_ends lines)) WrongJudgement _ (λ none.
         runs_gives S faulty j _ (λ i a e.
         finds_gives S faulty (slice_get a.spatial k) NoSuchAtom _ (λ x at.
-        let w = same (Runs i a) e in (((spatial_dropped most ds n k a w.heaps.0, tt), w.form), tt)))
+        let w = same (Runs i a) e in (((spatial_dropped most ds n k a w.heaps.0, tt), w.form), tt))))

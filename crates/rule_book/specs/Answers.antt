@@ -12,8 +12,8 @@ use Rattle.heap_formula.specs.declared.proof_rules.RuleFault.{RuleFault}
 use Rattle.heap_formula.specs.declared.proof_rules.RuleFault.TheVariants.{NoSuchNode}
 use Rattle.heap_formula.specs.Definitions.{Definition}
 use Rattle.rule_table.specs.Answer.{Answer}
-use Rattle.rule_table.specs.LinkTable.{link_fault, link_premise}
-use Rattle.rule_table.specs.RuleBook.{variables_of, rule_answer}
+use Rattle.rule_table.specs.LinkTable.{link_premise}
+use Rattle.rule_table.specs.RuleBook.{rule_answer, program_link_fault}
 
 -- the entry of a map for a place, 0 past the end
 abbrev pub entry_of : List ℕ → ℕ → ℕ
@@ -28,7 +28,7 @@ unless_fault (Some f) premise = Err f
 abbrev pub link_answer : List Command → Judgement → Link → Option Judgement → Answer
 link_answer lines bud link None = Err NoSuchNode
 link_answer lines bud link (Some companion) =
-    unless_fault (link_fault bud companion link (variables_of lines bud)) (link_premise companion link)
+    unless_fault (program_link_fault lines bud companion link) (link_premise companion link)
 
 -- the premises of a rule, or the companion of a link
 abbrev pub reason_answer : Limits → List Definition → List Command → Judgement → Reason → Option Judgement → Answer

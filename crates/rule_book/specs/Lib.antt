@@ -5,3 +5,4 @@ pub mod Graphs
 pub mod SeparationLogic
 pub mod LogicLaws
 pub mod Instance
+pub mod ProgramLinks

@@ -6,6 +6,8 @@ use Rattle.cyc_basics.specs.declared.limits.TheConstants.{VARIABLE_NUMBERS}
 use Rattle.heap_formula.specs.declared.terms.Term.{Term}
 use Rattle.heap_formula.specs.declared.atoms.Spatial.{Spatial}
 use Rattle.heap_formula.specs.declared.atoms.Spatial.TheVariants.{Cell, Pred}
+use Rattle.heap_formula.specs.declared.commands.Command.{Command}
+use Rattle.heap_formula.specs.declared.commands.Command.TheVariants.{Ends}
 use Rattle.heap_formula.specs.declared.judgements.Judgement.{Judgement}
 use Rattle.heap_formula.specs.declared.judgements.Judgement.TheVariants.{Entail, Term as Runs}
 use Rattle.heap_formula.specs.declared.judgements.Premise.{Premise}
@@ -54,6 +56,17 @@ pub record IsJudgementWithin (most : Limits) (ds : List Definition) (count : ℕ
 
 abbrev pub IsPremiseWithin : Limits → List Definition → ℕ → Premise → Type 0
 IsPremiseWithin most ds count p = IsJudgementWithin most ds count p.judgement
+
+-- ---- programs
+
+-- the disjuncts of an end, of which there are one to sixteen
+abbrev pub IsCommandWithin : Limits → List Definition → Command → Type 0
+IsCommandWithin most ds (Ends bs) = Each (IsHeapWithin most ds) bs × (0 < length bs) × (length bs ≤ MOST_DISJUNCTS)
+IsCommandWithin most ds _ = Unit {0}
+
+-- the ends of a program
+abbrev pub AreEndsWithin : Limits → List Definition → List Command → Type 0
+AreEndsWithin most ds lines = Each (IsCommandWithin most ds) lines
 
 -- ---- definitions
 

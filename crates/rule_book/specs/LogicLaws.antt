@@ -20,9 +20,9 @@ use Rattle.heap_formula.proofs.Members.{each_from}
 use Rattle.heap_formula.proofs.AllMembers.{each_at}
 use Rattle.rule_table.specs.Answer.{Answer}
 use Rattle.rule_table.specs.Fits.{IsPredAt, PairsFit, PremiseFits, OnPremises}
-use Rattle.rule_table.specs.LinkTable.{link_fault, link_premise}
+use Rattle.rule_table.specs.LinkTable.{link_premise}
 use Rattle.rule_table.specs.Judgements.{IsReadable}
-use Rattle.rule_table.specs.RuleBook.{variables_of, rule_answer}
+use Rattle.rule_table.specs.RuleBook.{variables_of, rule_answer, program_link_fault}
 use Rattle.rule_table.specs.Soundness.{IsSound}
 use Rattle.rule_table.proofs.AllFit.{rule_fits, link_fits}
 use Rattle.rule_table.proofs.AllRules.{has_variables, rule_is_sound}
@@ -38,6 +38,7 @@ use Rattle.proof_graph.proofs.Places.{place_of}
 use Rattle.cyc_basics.proofs.Places.{get_map}
 use Rattle.logics.specs.declared.premises.Subgoal.{Subgoal}
 use Rattle.logics.specs.Laws.{ArePremises, IsInOrder, IsLocallySound}
+use Rattle.rule_book.specs.ProgramLinks.{program_link_parts}
 use Rattle.rule_book.specs.SeparationLogic.{traced, traced_answer, pairs_unless, rule_premises, companion_pairs}
 use Rattle.rule_book.specs.SeparationLogic.{separation_logic, MayOccur, Holds}
 
@@ -68,11 +69,11 @@ module _ (most : Limits) (ds : List Definition) (lines : List Command) where
 
   -- the pairs of a link without a fault
   record Linked (bud companion : Judgement) (link : Link) (pairs : List TracePair) : Type 0 where
-    none : link_fault bud companion link (variables_of lines bud) ≡ None
+    none : program_link_fault lines bud companion link ≡ None
     are : trace_pairs_of (link_premise companion link).pairs ≡ pairs
 
   linked : (bud companion : Judgement) (link : Link) (pairs : List TracePair) (o : Option RuleFault)
-      → link_fault bud companion link (variables_of lines bud) ≡ o
+      → program_link_fault lines bud companion link ≡ o
       → pairs_unless o (link_premise companion link) ≡ Ok pairs → Linked bud companion link pairs
   linked bud companion link pairs (Some f) is e = cc
   linked bud companion link pairs None is e =
@@ -100,9 +101,9 @@ module _ (most : Limits) (ds : List Definition) (lines : List Command) where
       → AreIn pairs (positions_of j) (positions_of k)
   links_fit j (Step rule) k pairs bud companion given e = cc
   links_fit j (Back link) k pairs bud companion given e =
-      let l = linked j k link pairs (link_fault j k link (variables_of lines j)) refl e in
+      let l = linked j k link pairs (program_link_fault lines j k link) refl e in
       subst (λ (ps : List TracePair). AreIn ps (positions_of j) (positions_of k)) l.are
-      (joined j k (link_premise k link).pairs (link_fits j k link (variables_of lines j) l.none))
+      (joined j k (link_premise k link).pairs (link_fits j k link (variables_of lines j) (program_link_parts lines j k link l.none).0))
 
   pub in_order : IsInOrder (separation_logic most ds lines) (MayOccur ds lines) IsReadable
   in_order = record { same = same_judgement_is; rules = rules_fit; links = links_fit }
@@ -128,8 +129,9 @@ module _ (most : Limits) (ds : List Definition) (lines : List Command) where
       ((τ : Stages) → Falls pairs σ τ → HoldsAt ds lines τ k) → HoldsAt ds lines σ j
   links_sound j (Step rule) k pairs bud companion given e σ hold = cc
   links_sound j (Back link) k pairs bud companion given e σ hold =
-      let l = linked j k link pairs (link_fault j k link (variables_of lines j)) refl e in
-      link_is_sound ds lines j k link (variables_of lines j) given (has_variables lines j) l.none σ (
+      let l = linked j k link pairs (program_link_fault lines j k link) refl e in
+      let parts = program_link_parts lines j k link l.none in
+      link_is_sound ds lines j k link (variables_of lines j) given (has_variables lines j) parts.1 parts.0 σ (
         λ τ follows. hold τ (subst (λ (ps : List TracePair). Falls ps σ τ) l.are
             (falls_of (link_premise k link).pairs σ τ follows)),
         tt,

@@ -13,9 +13,9 @@ use Rattle.heap_formula.specs.Judgements.{HoldsAt}
 use Rattle.heap_formula.specs.Meaning.{Stages}
 use Rattle.heap_formula.specs.Words.{Each}
 use Rattle.rule_table.specs.Answer.{Answer}
-use Rattle.rule_table.specs.LinkTable.{link_fault, link_premise}
+use Rattle.rule_table.specs.LinkTable.{link_premise}
 use Rattle.rule_table.specs.Judgements.{same_judgement}
-use Rattle.rule_table.specs.RuleBook.{variables_of, rule_answer}
+use Rattle.rule_table.specs.RuleBook.{rule_answer, program_link_fault}
 use Rattle.rule_table.specs.Soundness.{IsCommand}
 use Rattle.trace_pairs.specs.Graph.{Pair}
 use Rattle.proof_graph.specs.Traces.{positions_of, trace_pairs_of}
@@ -44,7 +44,7 @@ rule_premises most ds lines j (Back link) = Err NoSuchNode
 abbrev pub companion_pairs : List Command → Judgement → Reason → Judgement → Result (List Pair) RuleFault
 companion_pairs lines bud (Step rule) companion = Err NoSuchNode
 companion_pairs lines bud (Back link) companion =
-    pairs_unless (link_fault bud companion link (variables_of lines bud)) (link_premise companion link)
+    pairs_unless (program_link_fault lines bud companion link) (link_premise companion link)
 
 -- the node that a link names
 abbrev pub target_of : Reason → Option ℕ

@@ -16,16 +16,17 @@ ghost use Rattle.goto_lang.specs.Lines.{IsProgram};
 ghost use Rattle.rule_table.specs.LinkTable.{link_fault};
 ghost use Rattle.rule_table.specs.RuleBook.{rule_answer};
 ghost use Rattle.rule_book.specs.Limits.{IsDefinitionWithin, IsJudgementWithin, IsPremiseWithin, IsRuleWithin};
+ghost use Rattle.rule_book.specs.Limits.{AreEndsWithin};
 ghost use Rattle.rule_book.specs.Limits.{HasShortNumbers, IsShortNumber};
 
 use cyc_basics::limits::MOST_CASES;
 
 /// The premises of a rule stay within the limits that its judgement keeps, and are few.
 /// What a rule brings in of its own, the terms of a Split or an Instantiate and the formula of a Cut, has to be within
-/// them too, and so have the definitions.
+/// them too, and so have the definitions and the ends of the program.
 pub fn premises_stay_within()
     ensures within { (most : Limits) (ds : List Definition) (lines : List Command) (j : Judgement) (rule : Rule)
-        (ps : List Premise) → Each (IsDefinitionWithin most ds) ds → IsProgram lines
+        (ps : List Premise) → Each (IsDefinitionWithin most ds) ds → IsProgram lines → AreEndsWithin most ds lines
         → IsJudgementWithin most ds (length lines) j → IsRuleWithin most ds rule
         → rule_answer most ds lines j rule ≡ Ok ps → Each (IsPremiseWithin most ds (length lines)) ps }
     ensures few { (most : Limits) (ds : List Definition) (lines : List Command) (j : Judgement) (rule : Rule)

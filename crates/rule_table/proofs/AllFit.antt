@@ -1,6 +1,6 @@
 -- Rule by rule: the trace pairs join predicate atoms.
 use Rattle.std.proofs.Common.{◌≡◌, ℕ, zero, suc, ◌+◌, ◌-◌, max, Bool, true, false, cond, List, [], ◌∷◌, ◌++◌, map}
-use Rattle.std.proofs.Common.{length, Some, None, refl, ap, ◌∙◌}
+use Rattle.std.proofs.Common.{length, not, Some, None, refl, ap, ◌∙◌}
 use Rattle.std.specs.Prelude.{Ok, slice_get, slice_set, slice_index, nat_eq, nat_le, if◌then◌else◌}
 use Rattle.cyc_basics.specs.declared.limits.Limits.{Limits}
 use Rattle.heap_formula.specs.declared.terms.Term.{Term}
@@ -11,7 +11,7 @@ use Rattle.heap_formula.specs.declared.atoms.Spatial.{Spatial}
 use Rattle.heap_formula.specs.declared.atoms.Spatial.TheVariants.{Cell, Pred}
 use Rattle.heap_formula.specs.declared.commands.Command.{Command}
 use Rattle.heap_formula.specs.declared.commands.Command.TheVariants.{Assign, Load, Store, New, Free, IfEq, IfNeq, IfAny}
-use Rattle.heap_formula.specs.declared.commands.Command.TheVariants.{Goto, Stop}
+use Rattle.heap_formula.specs.declared.commands.Command.TheVariants.{Goto, Stop, Ends}
 use Rattle.heap_formula.specs.declared.judgements.Judgement.{Judgement}
 use Rattle.heap_formula.specs.declared.judgements.Judgement.TheVariants.{Entail, Term as Runs}
 use Rattle.heap_formula.specs.declared.judgements.Pair.{Pair}
@@ -29,7 +29,7 @@ use Rattle.heap_formula.specs.Definitions.{Definition}
 use Rattle.heap_formula.specs.Words.{Each}
 use Rattle.heap_formula.specs.Meaning.{cases_of}
 use Rattle.heap_formula.specs.Fresh.{heap_bound, fresh_number, variables_from}
-use Rattle.heap_formula.specs.Programs.{counted_from_one, program_variables}
+use Rattle.heap_formula.specs.Programs.{counted_from_one, program_variables, has_ends}
 use Rattle.heap_formula.specs.Judgements.{antecedent, with_antecedent}
 use Rattle.heap_formula.specs.Positions.{without, same_pairs, kept_pairs, child_pairs, chosen, others_of}
 use Rattle.heap_formula.specs.Substitution.{in_heap, apply_term, apply_spatial, case_body}
@@ -147,6 +147,8 @@ renamed_pred x n a i p = get_mapped (apply_term ((x, Univ n) ∷ [])) a.spatial 
 command_fits : (most : Limits) (i : ℕ) (a : SymbolicHeap) (n : ℕ) (c : Command)
     → OnPremises (PremiseFits (Runs i a)) (command_answer most i a n c)
 command_fits most i a n Stop = tt
+command_fits most i a n (Ends bs) = limited_on (PremiseFits (Runs i a)) most (one (with_right a bs))
+    (same_fit a.spatial a.spatial (λ k p. p), tt)
 command_fits most i a n (Goto j) = limited_on (PremiseFits (Runs i a)) most (one (at_line j a a))
     (same_fit a.spatial a.spatial (λ k p. p), tt)
 command_fits most i a n (IfEq t u j) =
@@ -262,8 +264,9 @@ rule_fits most ds lines j Exec =
     runs_on PremiseFits j _ (λ i a. finds_on (PremiseFits (Runs i a)) (counted_from_one lines i) WrongJudgement _
     (λ c at. command_fits most i a (fresh_number (program_variables lines) j) c))
 rule_fits most ds lines j (Drop k) =
+    needs_on (PremiseFits j) (not (has_ends lines)) WrongJudgement _ (λ none.
     runs_on PremiseFits j _ (λ i a. finds_on (PremiseFits (Runs i a)) (slice_get a.spatial k) NoSuchAtom _
-    (λ x at. (kept_fit k a.spatial (without k a.spatial) (λ m p. p), tt)))
+    (λ x at. (kept_fit k a.spatial (without k a.spatial) (λ m p. p), tt))))
 
 -- ---- Link
 

@@ -1,5 +1,5 @@
 -- Every rule of the table is sound.
-use Rattle.std.proofs.Common.{ℕ, List, ◌≤◌, arith}
+use Rattle.std.proofs.Common.{◌≡◌, ℕ, List, ◌≤◌, Bool, true, false, not, refl, arith}
 use Rattle.cyc_basics.specs.declared.limits.Limits.{Limits}
 use Rattle.heap_formula.specs.declared.commands.Command.{Command}
 use Rattle.heap_formula.specs.declared.judgements.Judgement.{Judgement}
@@ -8,10 +8,11 @@ use Rattle.heap_formula.specs.declared.proof_rules.Rule.{Rule}
 use Rattle.heap_formula.specs.declared.proof_rules.Rule.TheVariants.{Absurd, Rewrite, Split, Distinct, Weaken, Unfold}
 use Rattle.heap_formula.specs.declared.proof_rules.Rule.TheVariants.{Cut, Done, Choose, PureRight, Instantiate, Frame}
 use Rattle.heap_formula.specs.declared.proof_rules.Rule.TheVariants.{UnfoldRight, Exec, Drop}
+use Rattle.heap_formula.specs.declared.proof_rules.RuleFault.TheVariants.{WrongJudgement}
 use Rattle.heap_formula.specs.Definitions.{Definition}
 use Rattle.heap_formula.specs.Words.{Each}
 use Rattle.heap_formula.specs.Closedness.{IsUniversalHeap}
-use Rattle.heap_formula.specs.Programs.{program_variables}
+use Rattle.heap_formula.specs.Programs.{program_variables, has_ends}
 use Rattle.heap_formula.specs.Judgements.{antecedent}
 use Rattle.rule_table.specs.RuleBook.{variables_of, rule_answer}
 use Rattle.rule_table.specs.Soundness.{IsSound, IsCommand, HasVariables}
@@ -20,6 +21,11 @@ use Rattle.rule_table.proofs.LeftRules.{weaken_is_sound, unfold_is_sound, cut_is
 use Rattle.rule_table.proofs.RightRules.{done_is_sound, choose_is_sound, pure_right_is_sound, instantiate_is_sound}
 use Rattle.rule_table.proofs.RightRules.{frame_is_sound, unfold_right_is_sound}
 use Rattle.rule_table.proofs.Commands.{exec_is_sound}
+use Rattle.rule_table.proofs.Steps.{needs_sound}
+
+not_true : (b : Bool) → not b ≡ true → b ≡ false
+not_true true e = cc
+not_true false e = refl
 
 pub has_variables : (lines : List Command) (j : Judgement) → HasVariables lines (variables_of lines j) j
 has_variables lines (Entail a bs) = tt
@@ -43,4 +49,6 @@ rule_is_sound most ds lines j (Instantiate v t) u c = instantiate_is_sound ds li
 rule_is_sound most ds lines j (Frame i k) u c = frame_is_sound ds lines j i k
 rule_is_sound most ds lines j (UnfoldRight k n) u c = unfold_right_is_sound ds lines most j k n
 rule_is_sound most ds lines j Exec u c = exec_is_sound ds lines most j c
-rule_is_sound most ds lines j (Drop k) u c = drop_is_sound ds lines j k
+rule_is_sound most ds lines j (Drop k) u c =
+    needs_sound ds lines j (not (has_ends lines)) WrongJudgement _
+    (λ none. drop_is_sound ds lines (not_true (has_ends lines) none) j k)

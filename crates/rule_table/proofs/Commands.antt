@@ -16,7 +16,7 @@ use Rattle.heap_formula.specs.declared.atoms.Spatial.{Spatial}
 use Rattle.heap_formula.specs.declared.atoms.Spatial.TheVariants.{Cell, Pred}
 use Rattle.heap_formula.specs.declared.commands.Command.{Command}
 use Rattle.heap_formula.specs.declared.commands.Command.TheVariants.{Assign, Load, Store, New, Free, IfEq, IfNeq, IfAny}
-use Rattle.heap_formula.specs.declared.commands.Command.TheVariants.{Goto, Stop}
+use Rattle.heap_formula.specs.declared.commands.Command.TheVariants.{Goto, Stop, Ends}
 use Rattle.heap_formula.specs.declared.judgements.Judgement.{Judgement}
 use Rattle.heap_formula.specs.declared.judgements.Judgement.TheVariants.{Entail, Term as Runs}
 use Rattle.heap_formula.specs.declared.proof_rules.RuleFault.TheVariants.{NoCell, WrongJudgement}
@@ -24,11 +24,11 @@ use Rattle.heap_formula.specs.Symbolic.{SymbolicHeap}
 use Rattle.heap_formula.specs.Definitions.{Definition}
 use Rattle.heap_formula.specs.Words.{Each}
 use Rattle.heap_formula.specs.Values.{Stack, value, values}
-use Rattle.heap_formula.specs.Cells.{Cells, cell_at, one_cell, Joins, IsUnion, IsPart}
+use Rattle.heap_formula.specs.Cells.{Cells, cell_at, one_cell, Joins, IsUnion}
 use Rattle.heap_formula.specs.Meaning.{Family, PureHolds, IsCell, AtomHolds, SpatialHolds, Holds, Stages, SatisfiesAt}
 use Rattle.heap_formula.specs.Meaning.{at_stage}
 use Rattle.heap_formula.specs.Fresh.{heap_bound, fresh_number, univ_bound, variables_from}
-use Rattle.heap_formula.specs.Programs.{Config, Halts, Goes, next_line, jump, value_in, field_at, field_of}
+use Rattle.heap_formula.specs.Programs.{Config, Halts, EndHolds, Goes, next_line, jump, value_in, field_at, field_of}
 use Rattle.heap_formula.specs.Programs.{counted_from_one, first_values, program_variables, start_at}
 use Rattle.heap_formula.specs.Judgements.{PremiseHolds, IsLocallySound}
 use Rattle.heap_formula.specs.Positions.{without, before, kept_pairs}
@@ -44,10 +44,11 @@ use Rattle.rule_table.proofs.ExecNew.{after_new, after_at_x, renamed as renamed_
 use Rattle.rule_table.proofs.ExecNew.{exec_new_sound}
 use Rattle.rule_table.specs.Answer.{one, two}
 use Rattle.rule_table.specs.Tests.{equated}
-use Rattle.rule_table.specs.Table.{without_spatial}
+use Rattle.rule_table.specs.Table.{without_spatial, with_right}
 use Rattle.rule_table.specs.ExecTable.{Found, later, cell_of, renamed, renamed_term, with_atom, with_cell, with_field}
 use Rattle.rule_table.specs.ExecTable.{at_line, command_answer, exec_answer}
 use Rattle.rule_table.specs.Soundness.{IsSound, IsCommand}
+use Rattle.rule_table.proofs.Conclusions.{satisfies_back}
 use Rattle.rule_table.proofs.Steps.{finds_sound, limited_sound}
 use Rattle.rule_table.proofs.Reflects.{equated_is}
 use Rattle.rule_table.proofs.CellsIn.{HasCell, cell_there, left_has, is_cell_has}
@@ -223,7 +224,8 @@ module _ (s e : Stack) where
 
 -- the part, and what is asked of a run from the next line
 module _ (ds : List Definition) (lines : List Command) (i : ℕ) (a : SymbolicHeap) (stages : Stages) (s : Stack)
-    (part : Cells) (o : SatisfiesAt ds stages s part a) (w : ℕ) (pos : 0 < w) (h : Cells) (is : IsPart part h) where
+    (part : Cells) (o : SatisfiesAt ds stages s part a) (w : ℕ) (pos : 0 < w) (rest h : Cells)
+    (is : IsUnion part rest h) where
   abbrev p : ℕ
   p = program_variables lines
 
@@ -235,15 +237,15 @@ module _ (ds : List Definition) (lines : List Command) (i : ℕ) (a : SymbolicHe
 
   -- a premise that keeps the spatial atoms and adds a pure one
   go_on : (j : ℕ) (x : Pure) → PremiseHolds ds lines stages (at_line j a (with_atom a x)) → PureHolds s e x
-      → (n : ℕ) × Halts lines w n (start_at lines j s h)
+      → (n : ℕ) × Halts (EndHolds ds rest) lines w n (start_at lines j s h)
   go_on j x premise holds =
       premise stages (pairs_follow (λ k. k) stages 0 a.spatial) s part
-      (e, (each_append (PureHolds s e) a.pure (x ∷ []) o.1.0 (holds, tt), o.1.1)) w pos h is
+      (e, (each_append (PureHolds s e) a.pure (x ∷ []) o.1.0 (holds, tt), o.1.1)) w pos rest h is
 
   -- x is set to the value of f
   set_on : (x n : ℕ) (f : Term) → x < n → p ≤ n → heap_bound a ≤ n → IsBelow n f
       → PremiseHolds ds lines stages (at_line (i + 1) a (with_atom (renamed x n a) (Eq (Univ x) (renamed_term x n f))))
-      → (m : ℕ) × Halts lines w m (next_line here (slice_set here.stack x (value s e f)) h)
+      → (m : ℕ) × Halts (EndHolds ds rest) lines w m (next_line here (slice_set here.stack x (value s e f)) h)
   set_on x n f x_below p_below a_below f_below premise =
       let v = value s e f in
       let s' = after_new n x s v [] in
@@ -259,9 +261,9 @@ module _ (ds : List Definition) (lines : List Command) (i : ℕ) (a : SymbolicHe
           each_append (PureHolds s' e) b.pure (Eq (Univ x) (renamed_term x n f) ∷ []) holds.0 (equal, tt),
           holds.1,
         ),
-      ) w pos h is in (
+      ) w pos rest h is in (
         r.0,
-        subst (λ st. Halts lines w r.0 (record { line = i + 1; stack = st; heap = h }))
+        subst (λ st. Halts (EndHolds ds rest) lines w r.0 (record { line = i + 1; stack = st; heap = h }))
             (first_set p n x v s (slice_index s x ∷ []) p_below) r.1,
       )
 
@@ -277,7 +279,7 @@ module _ (ds : List Definition) (lines : List Command) (i : ℕ) (a : SymbolicHe
   branch : (t u : Term) (j k : ℕ) → IsUniversal t → IsUniversal u → univ_bound t ≤ p → univ_bound u ≤ p
       → PremiseHolds ds lines stages (at_line j a (with_atom a (Eq t u)))
       → PremiseHolds ds lines stages (at_line k a (with_atom a (Neq t u))) → (b : Bool)
-      → nat_eq (value_in here t) (value_in here u) ≡ b → (n : ℕ) × Halts lines w n (jump here (cond b j k))
+      → nat_eq (value_in here t) (value_in here u) ≡ b → (n : ℕ) × Halts (EndHolds ds rest) lines w n (jump here (cond b j k))
   branch t u j k ut uu bt bu equal different true q = go_on j (Eq t u) equal (test_value t u ut uu bt bu true q)
   branch t u j k ut uu bt bu equal different false q = go_on k (Neq t u) different (test_value t u ut uu bt bu false q)
 
@@ -290,7 +292,7 @@ module _ (ds : List Definition) (lines : List Command) (i : ℕ) (a : SymbolicHe
       let same = equated_value a.pure s e o.1.0 c.address t (equated_is a.pure c.address t f.same)
       ∙ sym (start_value p s e t ut bt) in
       let has = cell_there s e (λ m. at_stage ds (stages m)) a.spatial c.place c.address c.fields part f.at o.1.1 in
-      (same, has, ap (cell_at h) (sym same) ∙ left_has (value s e c.address) (values s e c.fields) is.1 has.has)
+      (same, has, ap (cell_at h) (sym same) ∙ left_has (value s e c.address) (values s e c.fields) is has.has)
 
   fields_below : (n : ℕ) (t : Term) (c : Found) → heap_bound a ≤ n → cell_of a.pure t a.spatial ≡ Some c
       → Each (IsBelow n) c.fields
@@ -307,71 +309,81 @@ module _ (ds : List Definition) (lines : List Command) (i : ℕ) (a : SymbolicHe
     (p_below : program_variables lines ≤ n) (a_below : heap_bound a ≤ n) where
   goto_sound : (j : ℕ) → counted_from_one lines i ≡ Some (Goto j)
       → IsLocallySound ds lines (Runs i a) (one (at_line j a a))
-  goto_sound j at stages premises s part o w pos h is =
-      one_way lines w (Goto j) (start_at lines i s h) (jump (start_at lines i s h) j) at (λ bad. bad) (λ e g. g)
-      (premises.0 stages (pairs_follow (λ k. k) stages 0 a.spatial) s part o w pos h is)
+  goto_sound j at stages premises s part o w pos rest h is =
+      one_way (EndHolds ds rest) lines w (Goto j) (start_at lines i s h) (jump (start_at lines i s h) j) at ((λ stop. stop), (λ bad. bad)) (λ e g. g)
+      (premises.0 stages (pairs_follow (λ k. k) stages 0 a.spatial) s part o w pos rest h is)
 
   if_any_sound : (j : ℕ) → counted_from_one lines i ≡ Some (IfAny j)
       → IsLocallySound ds lines (Runs i a) (two (at_line j a a) (at_line (i + 1) a a))
-  if_any_sound j at stages premises s part o w pos h is =
+  if_any_sound j at stages premises s part o w pos rest h is =
       let c = start_at lines i s h in
-      two_ways lines w (IfAny j) c (jump c j) (jump c (i + 1)) at (λ bad. bad) (λ e g. g)
-      (premises.0 stages (pairs_follow (λ k. k) stages 0 a.spatial) s part o w pos h is)
-      (premises.1.0 stages (pairs_follow (λ k. k) stages 0 a.spatial) s part o w pos h is)
+      two_ways (EndHolds ds rest) lines w (IfAny j) c (jump c j) (jump c (i + 1)) at ((λ stop. stop), (λ bad. bad)) (λ e g. g)
+      (premises.0 stages (pairs_follow (λ k. k) stages 0 a.spatial) s part o w pos rest h is)
+      (premises.1.0 stages (pairs_follow (λ k. k) stages 0 a.spatial) s part o w pos rest h is)
 
   stop_sound : counted_from_one lines i ≡ Some Stop → IsLocallySound ds lines (Runs i a) []
-  stop_sound at stages none s part o w pos h is = (0, at)
+  stop_sound at stages none s part o w pos rest h is = (0, (Stop, at, tt))
+
+  -- at an end the part is a part that satisfies it
+  ends_sound : (bs : List SymbolicHeap) → counted_from_one lines i ≡ Some (Ends bs)
+      → IsLocallySound ds lines (Runs i a) (one (with_right a bs))
+  ends_sound bs at stages premises s part o w pos rest h is =
+      let p = program_variables lines in
+      let b = bound_at lines i (Ends bs) at in
+      let holds = premises.0 stages (pairs_follow (λ k. k) stages 0 a.spatial) s part o in
+      let ends = satisfies_back ds p (first_values p s) s (λ m lt. sym (first_at p s m lt)) part bs (omega arith) holds in
+      (0, (Ends bs, at, (part, is, ends)))
 
   if_eq_sound : (t u : Term) (j : ℕ) → counted_from_one lines i ≡ Some (IfEq t u j) → IsUniversal t × IsUniversal u
       → IsLocallySound ds lines (Runs i a) (two (at_line j a (with_atom a (Eq t u)))
       (at_line (i + 1) a (with_atom a (Neq t u))))
-  if_eq_sound t u j at universal stages premises s part o w pos h is =
+  if_eq_sound t u j at universal stages premises s part o w pos rest h is =
       let b = bound_at lines i (IfEq t u j) at in
       let c = start_at lines i s h in
-      one_way lines w (IfEq t u j) c (jump c (if nat_eq (value_in c t) (value_in c u) then j else i + 1)) at
-      (λ bad. bad) (λ e g. g) (branch ds lines i a stages s part o w pos h is t u j (i + 1) universal.0 universal.1
+      one_way (EndHolds ds rest) lines w (IfEq t u j) c (jump c (if nat_eq (value_in c t) (value_in c u) then j else i + 1)) at
+      ((λ stop. stop), (λ bad. bad)) (λ e g. g) (branch ds lines i a stages s part o w pos rest h is t u j (i + 1) universal.0 universal.1
       (omega arith) (omega arith) premises.0 premises.1.0 (nat_eq (value_in c t) (value_in c u)) refl)
 
   if_neq_sound : (t u : Term) (j : ℕ) → counted_from_one lines i ≡ Some (IfNeq t u j) → IsUniversal t × IsUniversal u
       → IsLocallySound ds lines (Runs i a) (two (at_line j a (with_atom a (Neq t u)))
       (at_line (i + 1) a (with_atom a (Eq t u))))
-  if_neq_sound t u j at universal stages premises s part o w pos h is =
+  if_neq_sound t u j at universal stages premises s part o w pos rest h is =
       let b = bound_at lines i (IfNeq t u j) at in
       let c = start_at lines i s h in
-      one_way lines w (IfNeq t u j) c (jump c (if nat_eq (value_in c t) (value_in c u) then i + 1 else j)) at
-      (λ bad. bad) (λ e g. g) (branch ds lines i a stages s part o w pos h is t u (i + 1) j universal.0 universal.1
+      one_way (EndHolds ds rest) lines w (IfNeq t u j) c (jump c (if nat_eq (value_in c t) (value_in c u) then i + 1 else j)) at
+      ((λ stop. stop), (λ bad. bad)) (λ e g. g) (branch ds lines i a stages s part o w pos rest h is t u (i + 1) j universal.0 universal.1
       (omega arith) (omega arith) premises.1.0 premises.0 (nat_eq (value_in c t) (value_in c u)) refl)
 
   assign_sound : (x : ℕ) (t : Term) → counted_from_one lines i ≡ Some (Assign x t) → IsUniversal t
       → IsLocallySound ds lines (Runs i a) (one (at_line (i + 1) a
       (with_atom (renamed x n a) (Eq (Univ x) (renamed_term x n t)))))
-  assign_sound x t at universal stages premises s part o w pos h is =
+  assign_sound x t at universal stages premises s part o w pos rest h is =
       let b = bound_at lines i (Assign x t) at in
       let c = start_at lines i s h in
       let v = start_value (program_variables lines) s o.0 t universal (omega arith) in
-      one_way lines w (Assign x t) c (next_line c (slice_set c.stack x (value s o.0 t)) h) at (λ bad. bad)
+      one_way (EndHolds ds rest) lines w (Assign x t) c (next_line c (slice_set c.stack x (value s o.0 t)) h) at ((λ stop. stop), (λ bad. bad))
       (λ e g. g ∙ ap (λ m. next_line c (slice_set c.stack x m) h) v)
-      (set_on ds lines i a stages s part o w pos h is x n t (omega arith) p_below a_below
+      (set_on ds lines i a stages s part o w pos rest h is x n t (omega arith) p_below a_below
       (below_of_bound n t (omega arith)) premises.0)
 
   load_sound : (x : ℕ) (t : Term) (k : ℕ) (c : Found) (f : Term) → counted_from_one lines i ≡ Some (Load x t k)
       → IsUniversal t → cell_of a.pure t a.spatial ≡ Some c → counted_from_one c.fields k ≡ Some f
       → IsLocallySound ds lines (Runs i a) (one (at_line (i + 1) a
       (with_atom (renamed x n a) (Eq (Univ x) (renamed_term x n f)))))
-  load_sound x t k c f at universal found field stages premises s part o w pos h is =
+  load_sound x t k c f at universal found field stages premises s part o w pos rest h is =
       let b = bound_at lines i (Load x t k) at in
       let d = start_at lines i s h in
-      let cell = cell_here ds lines i a stages s part o w pos h is t c universal (omega arith) found in
+      let cell = cell_here ds lines i a stages s part o w pos rest h is t c universal (omega arith) found in
       let reads : field_at h (value_in d t) k ≡ Some (value s o.0 f)
-      = field_here ds lines i a stages s part o w pos h is (cell_at h (value_in d t)) (values s o.0 c.fields) k
+      = field_here ds lines i a stages s part o w pos rest h is (cell_at h (value_in d t)) (values s o.0 c.fields) k
       (value s o.0 f) cell.2 (counted_map (value s o.0) c.fields k f field) in
       let f_below : IsBelow n f = counted_get (IsBelow n) c.fields k f field
-      (fields_below ds lines i a stages s part o w pos h is n t c a_below found) in
-      one_way lines w (Load x t k) d (next_line d (slice_set d.stack x (value s o.0 f)) h) at
-      (λ bad. let none : field_at h (value_in d t) k ≡ None = bad in cc)
+      (fields_below ds lines i a stages s part o w pos rest h is n t c a_below found) in
+      one_way (EndHolds ds rest) lines w (Load x t k) d (next_line d (slice_set d.stack x (value s o.0 f)) h) at
+      ((λ stop. stop), (λ bad. let none : field_at h (value_in d t) k ≡ None = bad in cc))
       (λ e g. let read : field_at h (value_in d t) k ≡ Some g.0 = g.1 in let same : g.0 ≡ value s o.0 f = cc in
       g.2 ∙ ap (λ m. next_line d (slice_set d.stack x m) h) same)
-      (set_on ds lines i a stages s part o w pos h is x n f (omega arith) p_below a_below f_below premises.0)
+      (set_on ds lines i a stages s part o w pos rest h is x n f (omega arith) p_below a_below f_below premises.0)
 
   some_fields : {X : Type 0} (xs : List X) (k : ℕ) (x : X) → counted_from_one xs k ≡ Some x → 0 < length xs
   some_fields xs zero x q = cc
@@ -381,16 +393,13 @@ module _ (ds : List Definition) (lines : List Command) (i : ℕ) (a : SymbolicHe
   store_sound : (t : Term) (k : ℕ) (u : Term) (c : Found) (f : Term) → counted_from_one lines i ≡ Some (Store t k u)
       → IsUniversal t × IsUniversal u → cell_of a.pure t a.spatial ≡ Some c → counted_from_one c.fields k ≡ Some f
       → IsLocallySound ds lines (Runs i a) (one (at_line (i + 1) a (with_field a c k u)))
-  store_sound t k u c f at universal found field stages premises s part o w pos h is =
-      one_way lines w (Store t k u) d (next_line d d.stack (insert h (value s e c.address) (values s e us))) at
-      (λ bad. let none : field_at h (value_in d t) k ≡ None = bad in let r = reads in cc) only
+  store_sound t k u c f at universal found field stages premises s part o w pos rest h is =
+      one_way (EndHolds ds rest) lines w (Store t k u) d (next_line d d.stack (insert h (value s e c.address) (values s e us))) at
+      ((λ stop. stop), (λ bad. let none : field_at h (value_in d t) k ≡ None = bad in let r = reads in cc)) only
       (premises.0 stages (pairs_follow (λ m. m) stages 0 a.spatial) s
-      (insert part (value s e c.address) (values s e us)) (e, (o.1.0, spatial)) w pos
-      (insert h (value s e c.address) (values s e us)) (
-        is.0,
-        written_union (value s e c.address) (values s e us)
-            (rest_has_none (value s e c.address) (values s e c.fields) is.1 cell.1.has) is.1,
-      ))
+      (insert part (value s e c.address) (values s e us)) (e, (o.1.0, spatial)) w pos rest
+      (insert h (value s e c.address) (values s e us)) (written_union (value s e c.address) (values s e us)
+      (rest_has_none (value s e c.address) (values s e c.fields) is cell.1.has) is))
     where
       e : Stack
       e = o.0
@@ -409,10 +418,10 @@ module _ (ds : List Definition) (lines : List Command) (i : ℕ) (a : SymbolicHe
 
       cell : (value s o.0 c.address ≡ value_in (start_at lines i s h) t) × HasCell s o.0 c.address c.fields part
           × (cell_at h (value_in (start_at lines i s h) t) ≡ Some (values s o.0 c.fields))
-      cell = cell_here ds lines i a stages s part o w pos h is t c universal.0 t_below found
+      cell = cell_here ds lines i a stages s part o w pos rest h is t c universal.0 t_below found
 
       reads : field_at h (value_in (start_at lines i s h) t) k ≡ Some (value s o.0 f)
-      reads = field_here ds lines i a stages s part o w pos h is (cell_at h (value_in d t)) (values s o.0 c.fields) k
+      reads = field_here ds lines i a stages s part o w pos rest h is (cell_at h (value_in d t)) (values s o.0 c.fields) k
           (value s o.0 f) cell.2 (counted_map (value s o.0) c.fields k f field)
 
       some : 0 < length (values s o.0 us)
@@ -439,22 +448,22 @@ module _ (ds : List Definition) (lines : List Command) (i : ℕ) (a : SymbolicHe
   free_sound : (t : Term) (c : Found) → counted_from_one lines i ≡ Some (Free t) → IsUniversal t
       → cell_of a.pure t a.spatial ≡ Some c → IsLocallySound ds lines (Runs i a)
       (one (record { judgement = Runs (i + 1) (without_spatial c.place a); pairs = kept_pairs c.place a.spatial }))
-  free_sound t c at universal found stages premises s part o w pos h is =
+  free_sound t c at universal found stages premises s part o w pos rest h is =
       let b = bound_at lines i (Free t) at in
       let d = start_at lines i s h in
-      let cell = cell_here ds lines i a stages s part o w pos h is t c universal (omega arith) found in
+      let cell = cell_here ds lines i a stages s part o w pos rest h is t c universal (omega arith) found in
       let out = take_out (at_stage ds) s o.0 a.spatial c.place (Cell c.address c.fields) stages part
       (found_is a.pure t a.spatial c found).at o.1.1 in
       let first : IsCell (value s o.0 c.address) (values s o.0 c.fields) out.part = out.first in
       let u : IsUnion (one_cell (value s o.0 c.address) (values s o.0 c.fields)) out.rest part = subst
       (λ g. IsUnion g out.rest part) first.2 out.union in
-      let left = freed_union (value s o.0 c.address) (values s o.0 c.fields) u is.1 in
-      one_way lines w (Free t) d (next_line d d.stack (remove h (value s o.0 c.address))) at
-      (λ bad. let none : cell_at h (value_in d t) ≡ None = bad in let has = cell.2 in cc)
+      let left = freed_union (value s o.0 c.address) (values s o.0 c.fields) u is in
+      one_way (EndHolds ds rest) lines w (Free t) d (next_line d d.stack (remove h (value s o.0 c.address))) at
+      ((λ stop. stop), (λ bad. let none : cell_at h (value_in d t) ≡ None = bad in let has = cell.2 in cc))
       (λ g way. way.2 ∙ (λ q. next_line d d.stack (remove h (sym cell.0 q))))
       (premises.0 (λ m. stages (before c.place m)) (pairs_follow (before c.place) stages 0
-      (without c.place a.spatial)) s out.rest (o.0, (o.1.0, out.others)) w pos (remove h (value s o.0 c.address))
-      (is.0, left))
+      (without c.place a.spatial)) s out.rest (o.0, (o.1.0, out.others)) w pos rest (remove h (value s o.0 c.address))
+      left)
 
   new_sound : (x k : ℕ) → counted_from_one lines i ≡ Some (New x k) → 0 < k
       → IsLocallySound ds lines (Runs i a) (one (at_line (i + 1) a
@@ -466,6 +475,8 @@ module _ (ds : List Definition) (lines : List Command) (i : ℕ) (a : SymbolicHe
   command_sound : (most : Limits) (c : Command) → counted_from_one lines i ≡ Some c → IsCommand c
       → IsSound ds lines (Runs i a) (command_answer most i a n c)
   command_sound most Stop at good = stop_sound at
+  command_sound most (Ends bs) at good = limited_sound ds lines most (Runs i a) (one (with_right a bs))
+      (ends_sound bs at)
   command_sound most (Goto j) at good = limited_sound ds lines most (Runs i a) (one (at_line j a a)) (goto_sound j at)
   command_sound most (IfEq t u j) at good =
       limited_sound ds lines most (Runs i a) (two (at_line j a (with_atom a (Eq t u)))

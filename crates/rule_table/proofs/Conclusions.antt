@@ -9,7 +9,7 @@ use Rattle.heap_formula.specs.Words.{OneOf, max_of}
 use Rattle.heap_formula.specs.Values.{Stack}
 use Rattle.heap_formula.specs.Cells.{Cells}
 use Rattle.heap_formula.specs.Meaning.{Stages, SatisfiesAt, Satisfies, at_stage}
-use Rattle.heap_formula.specs.Programs.{Halts, program_variables}
+use Rattle.heap_formula.specs.Programs.{Halts, EndHolds, program_variables}
 use Rattle.heap_formula.specs.Judgements.{HoldsAt, Concludes, antecedent, with_antecedent}
 use Rattle.heap_formula.specs.Fresh.{heap_bound, judgement_bound}
 use Rattle.rule_table.proofs.Substitutes.{along}
@@ -46,11 +46,11 @@ pub concludes_back : (ds : List Definition) (lines : List Command) (n : ℕ) (j 
     (s s' : Stack) (h : Cells) → IsFresh lines n j → Agrees n s s' → Concludes ds lines (with_antecedent j a) s' h
     → Concludes ds lines j s h
 concludes_back ds lines n (Entail b bs) a s s' h f agrees c = satisfies_back ds n s s' agrees h bs (omega arith) c
-concludes_back ds lines n (Runs i b) a s s' part f agrees c = λ w pos h is.
-    let r = c w pos h is in
+concludes_back ds lines n (Runs i b) a s s' part f agrees c = λ w pos rest h is.
+    let r = c w pos rest h is in
     let p = program_variables lines in
     let same = first_values-same p s' s (λ k lt. let g = f.1 in agrees k (omega arith)) in
-    (r.0, subst (λ st. Halts lines w r.0 (record { line = i; stack = st; heap = h })) same r.1)
+    (r.0, subst (λ st. Halts (EndHolds ds rest) lines w r.0 (record { line = i; stack = st; heap = h })) same r.1)
 
 pub use_premise : (ds : List Definition) (lines : List Command) (stages : Stages) (j : Judgement) (a : SymbolicHeap)
     → HoldsAt ds lines stages (with_antecedent j a) → (s : Stack) (h : Cells) → SatisfiesAt ds stages s h a

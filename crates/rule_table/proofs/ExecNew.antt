@@ -18,7 +18,7 @@ use Rattle.heap_formula.specs.Definitions.{Definition}
 use Rattle.heap_formula.specs.Values.{Stack, value, values}
 use Rattle.heap_formula.specs.Cells.{cell_at, no_cells, one_cell, IsUnion}
 use Rattle.heap_formula.specs.Meaning.{SpatialHolds, Holds, at_stage, IsCell}
-use Rattle.heap_formula.specs.Programs.{Halts, counted_from_one, first_values, program_variables, start_at}
+use Rattle.heap_formula.specs.Programs.{Halts, EndHolds, counted_from_one, first_values, program_variables, start_at}
 use Rattle.heap_formula.specs.Judgements.{IsLocallySound}
 use Rattle.heap_formula.specs.Positions.{same_pairs}
 use Rattle.heap_formula.specs.Substitution.{in_spatial, apply_term, apply_heap}
@@ -129,8 +129,8 @@ pub exec_new_sound : (ds : List Definition) (lines : List Command) (line : ℕ) 
       judgement = Runs (line + 1) (after_exec_new a x k n);
       pairs = same_pairs a.spatial;
     } ∷ [])
-exec_new_sound ds lines line a x k n at fields x_below p_below a_below stages premises s part o w pos h is =
-    new_way lines w x k (start_at lines line s h) at (λ a' vs pick.
+exec_new_sound ds lines line a x k n at fields x_below p_below a_below stages premises s part o w pos rest h is =
+    new_way (EndHolds ds rest) lines w x k (start_at lines line s h) at (λ a' vs pick.
     let e = o.0 in
     let p = program_variables lines in
     let s' = after_new n x s a' vs in
@@ -154,7 +154,7 @@ exec_new_sound ds lines line a x k n at fields x_below p_below a_below stages pr
       first = is_cell;
       others = refl;
     } in
-    let free_part = none_left (cell_at part a') (cell_at is.0 a') (cell_at h a') pick.free (is.1.joins a') in
+    let free_part = none_left (cell_at part a') (cell_at rest a') (cell_at h a') pick.free (is.joins a') in
     let joined : IsUnion part (one_cell a' vs) (insert part a' vs) = union_comm
     (put_union a' vs free_part (empty_union part)) in
     let below = then_stages old_atoms stages (λ _. 0) in
@@ -165,9 +165,9 @@ exec_new_sound ds lines line a x k n at fields x_below p_below a_below stages pr
     (λ i lt. let z : 0 + i ≡ i = omega arith in subst (λ q. below q ≤ stages q) (sym z)
     (let l = length-map a.spatial (in_spatial rename) in
     let v = then_stages-first old_atoms stages (λ _. 0) i (omega arith) in omega arith)) in
-    let r = premises.0 below follows s' (insert part a' vs) (e, (old_holds.0, spatial)) w pos (insert h a' vs)
-    (is.0, put_union a' vs pick.free is.1) in (
+    let r = premises.0 below follows s' (insert part a' vs) (e, (old_holds.0, spatial)) w pos rest (insert h a' vs)
+    (put_union a' vs pick.free is) in (
       r.0,
-      subst (λ st. Halts lines w r.0 (record { line = line + 1; stack = st; heap = insert h a' vs }))
+      subst (λ st. Halts (EndHolds ds rest) lines w r.0 (record { line = line + 1; stack = st; heap = insert h a' vs }))
           (first_set p n x a' s (slice_index s x ∷ vs) p_below) r.1,
     ))

@@ -1,6 +1,6 @@
 -- A rule has few premises where each predicate has few cases.
 use Rattle.std.proofs.Common.{◌≡◌, ℕ, zero, suc, ◌+◌, ◌≤◌, Bool, true, false, cond, List, [], ◌∷◌, map, length, Option}
-use Rattle.std.proofs.Common.{Some, None, Ok, Err, subst, arith}
+use Rattle.std.proofs.Common.{Some, None, Ok, Err, not, subst, arith}
 use Rattle.std.specs.Prelude.{slice_get, nat_eq, max, if◌then◌else◌}
 use Rattle.std.proofs.lemmas.List.{length-map}
 use Rattle.cyc_basics.specs.declared.limits.Limits.{Limits}
@@ -13,7 +13,7 @@ use Rattle.heap_formula.specs.declared.atoms.Spatial.{Spatial}
 use Rattle.heap_formula.specs.declared.atoms.Spatial.TheVariants.{Cell, Pred}
 use Rattle.heap_formula.specs.declared.commands.Command.{Command}
 use Rattle.heap_formula.specs.declared.commands.Command.TheVariants.{Assign, Load, Store, New, Free, IfEq, IfNeq, IfAny}
-use Rattle.heap_formula.specs.declared.commands.Command.TheVariants.{Goto, Stop}
+use Rattle.heap_formula.specs.declared.commands.Command.TheVariants.{Goto, Stop, Ends}
 use Rattle.heap_formula.specs.declared.judgements.Judgement.{Judgement}
 use Rattle.heap_formula.specs.declared.judgements.Judgement.TheVariants.{Entail, Term as Runs}
 use Rattle.heap_formula.specs.declared.judgements.Premise.{Premise}
@@ -35,7 +35,7 @@ use Rattle.heap_formula.specs.declared.proof_rules.RuleFault.TheVariants.{WrongJ
 use Rattle.heap_formula.specs.Fresh.{heap_bound, heap_exists, fresh_number, variables_from}
 use Rattle.heap_formula.specs.Judgements.{antecedent}
 use Rattle.heap_formula.specs.Positions.{without, kept_pairs}
-use Rattle.heap_formula.specs.Programs.{program_variables}
+use Rattle.heap_formula.specs.Programs.{program_variables, has_ends}
 use Rattle.heap_formula.specs.Substitution.{in_heap}
 use Rattle.rule_table.specs.RuleUnfold.{unfold_premise, unfolded}
 use Rattle.rule_table.specs.RuleCut.{cut_left, cut_right}
@@ -106,6 +106,7 @@ side_few p j k x (Univ v) u = omega arith
 
 command_few : (most : Limits) (i : ℕ) (a : SymbolicHeap) (n : ℕ) (c : Command) → IsFew (command_answer most i a n c)
 command_few most i a n Stop = omega arith
+command_few most i a n (Ends bs) = limited_few most (one (with_right a bs)) (omega arith)
 command_few most i a n (Goto j) = limited_few most (one (at_line j a a)) (omega arith)
 command_few most i a n (IfEq t u j) =
     limited_few most (two (at_line j a (with_atom a (Eq t u))) (at_line (i + 1) a (with_atom a (Neq t u))))
@@ -206,8 +207,9 @@ rule_few most ds lines h j (UnfoldRight k c) =
 rule_few most ds lines h j Exec =
     runs_few j _ (λ i a. finds_few (counted_from_one lines i) WrongJudgement _
     (λ c. command_few most i a (fresh_number (program_variables lines) j) c))
-rule_few most ds lines h j (Drop k) = runs_few j _
-    (λ i a. finds_few (slice_get a.spatial k) NoSuchAtom _ (λ x. omega arith))
+rule_few most ds lines h j (Drop k) =
+    needs_few (not (has_ends lines)) WrongJudgement _
+    (runs_few j _ (λ i a. finds_few (slice_get a.spatial k) NoSuchAtom _ (λ x. omega arith)))
 
 -- the premises that the table gives are few
 pub premises_few : (answer : Answer) (ps : List Premise) → IsFew answer → answer ≡ Ok ps → length ps ≤ MOST_CASES

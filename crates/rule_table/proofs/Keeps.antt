@@ -1,6 +1,6 @@
 -- Rule by rule: no existential stands in a premise's antecedent.
 use Rattle.std.proofs.Common.{◌≡◌, ℕ, zero, suc, ◌+◌, ◌-◌, max, Bool, true, false, cond, List, [], ◌∷◌, map, length}
-use Rattle.std.proofs.Common.{Some, subst}
+use Rattle.std.proofs.Common.{Some, subst, not}
 use Rattle.std.specs.Prelude.{Ok, Err, slice_get, slice_set, nat_eq, nat_le, if◌then◌else◌, slice_index_or}
 use Rattle.cyc_basics.specs.declared.limits.Limits.{Limits}
 use Rattle.heap_formula.specs.declared.terms.Term.{Term}
@@ -11,7 +11,7 @@ use Rattle.heap_formula.specs.declared.atoms.Spatial.{Spatial}
 use Rattle.heap_formula.specs.declared.atoms.Spatial.TheVariants.{Cell, Pred}
 use Rattle.heap_formula.specs.declared.commands.Command.{Command}
 use Rattle.heap_formula.specs.declared.commands.Command.TheVariants.{Assign, Load, Store, New, Free, IfEq, IfNeq, IfAny}
-use Rattle.heap_formula.specs.declared.commands.Command.TheVariants.{Goto, Stop}
+use Rattle.heap_formula.specs.declared.commands.Command.TheVariants.{Goto, Stop, Ends}
 use Rattle.heap_formula.specs.declared.judgements.Judgement.{Judgement}
 use Rattle.heap_formula.specs.declared.judgements.Judgement.TheVariants.{Entail, Term as Runs}
 use Rattle.heap_formula.specs.declared.judgements.Premise.{Premise}
@@ -29,7 +29,7 @@ use Rattle.heap_formula.specs.Definitions.{Definition}
 use Rattle.heap_formula.specs.Words.{Each}
 use Rattle.heap_formula.specs.Meaning.{cases_of}
 use Rattle.heap_formula.specs.Fresh.{heap_bound, fresh_number, heap_exists, variables_from}
-use Rattle.heap_formula.specs.Programs.{counted_from_one, program_variables}
+use Rattle.heap_formula.specs.Programs.{counted_from_one, program_variables, has_ends}
 use Rattle.heap_formula.specs.Judgements.{antecedent, with_antecedent}
 use Rattle.heap_formula.specs.Positions.{without, kept_pairs, chosen, chosen_step, others_of}
 use Rattle.heap_formula.specs.Substitution.{in_heap, in_spatial, apply_term, apply_judgement, case_body, in_pure}
@@ -229,6 +229,7 @@ module _ (i : ℕ) (a : SymbolicHeap) (n : ℕ) (h : IsUniversalHeap a) where
   command_universal : (most : Limits) (c : Command) → IsCommand c
       → OnPremises IsUniversalPremise (command_answer most i a n c)
   command_universal most Stop good = tt
+  command_universal most (Ends bs) good = limited_on IsUniversalPremise most (one (with_right a bs)) (h, tt)
   command_universal most (Goto j) good = limited_on IsUniversalPremise most (one (at_line j a a)) (h, tt)
   command_universal most (IfEq t u j) good =
       limited_on IsUniversalPremise most (two (at_line j a (with_atom a (Eq t u)))
@@ -380,5 +381,6 @@ rule_keeps most ds lines j (UnfoldRight k n) h c r =
 rule_keeps most ds lines j Exec h c r =
     exec_keeps most lines j h c
 rule_keeps most ds lines j (Drop k) h c r =
+    needs_on IsUniversalPremise (not (has_ends lines)) WrongJudgement _ (λ none.
     lift j (drop_answer j k) (runs_on P j _ (λ i a. finds_on (P (Runs i a)) (slice_get a.spatial k) NoSuchAtom _
-    (λ x at. (λ u. (u.0, Each-without (InSpatial IsUniversal) a.spatial k u.1), tt)))) h
+    (λ x at. (λ u. (u.0, Each-without (InSpatial IsUniversal) a.spatial k u.1), tt)))) h)

@@ -23,14 +23,15 @@ use Rattle.heap_formula.specs.Values.{Stack, value}
 use Rattle.heap_formula.specs.Cells.{Cells}
 use Rattle.heap_formula.specs.Meaning.{PureHolds, Stages, SatisfiesAt, Satisfies, at_stage, cases_of}
 use Rattle.heap_formula.specs.Fresh.{heap_bound, fresh_number}
-use Rattle.heap_formula.specs.Programs.{program_variables}
+use Rattle.heap_formula.specs.Programs.{EndHolds, has_ends, start_at, program_variables}
 use Rattle.heap_formula.specs.Judgements.{Concludes, IsLocallySound, antecedent, with_antecedent}
 use Rattle.heap_formula.specs.Positions.{without, before, kept_pairs}
 use Rattle.heap_formula.specs.Closedness.{InPure, IsUniversal, IsUniversalHeap}
 use Rattle.heap_formula.specs.Substitution.{apply_term, apply_pure, apply_spatial, apply_heap, apply_judgement}
 use Rattle.rule_table.specs.RuleUnfold.{unfold_premise}
 use Rattle.rule_table.specs.RuleCut.{cut_left, cut_right}
-use Rattle.heap_formula.proofs.Unions.{part_trans, union_comm}
+use Rattle.heap_formula.proofs.Unions.{union_assoc, union_comm}
+use Rattle.heap_formula.proofs.EndLaws.{halts_alike}
 use Rattle.rule_table.proofs.Substitutes.{pures_same, spatial_same, holds_same, along, back_along}
 use Rattle.rule_table.proofs.Frames.{value_universal, take_out, pairs_follow}
 use Rattle.rule_table.proofs.Rewrites.{AnyTerm, any_heap, Each-without, value_replaced}
@@ -216,17 +217,20 @@ module _ (ds : List Definition) (lines : List Command) where
       (cut_sound ds lines j (has_number places) f (max (fresh_number p j) (heap_bound f))
       (is_fresh lines p (max (fresh_number p j) (heap_bound f)) j v (omega arith)) (omega arith)))
 
-  drop_sound : (i : ℕ) (a : SymbolicHeap) (k : ℕ) (x : Spatial) → slice_get a.spatial k ≡ Some x
+  drop_sound : has_ends lines ≡ false → (i : ℕ) (a : SymbolicHeap) (k : ℕ) (x : Spatial)
+      → slice_get a.spatial k ≡ Some x
       → IsLocallySound ds lines (Runs i a) (one (record {
         judgement = Runs i (without_spatial k a);
         pairs = kept_pairs k a.spatial;
       }))
-  drop_sound i a k x at stages premises s part o w pos h is =
+  drop_sound none i a k x at stages premises s part o w pos rest h is =
       let out = take_out (at_stage ds) s o.0 a.spatial k x stages part at o.1.1 in
-      premises.0 (λ m. stages (before k m)) (pairs_follow (before k) stages 0 (without k a.spatial)) s out.rest
-      (o.0, (o.1.0, out.others)) w pos h (part_trans (out.part, union_comm out.union) is)
+      let split = union_assoc (union_comm out.union) is in
+      let r = premises.0 (λ m. stages (before k m)) (pairs_follow (before k) stages 0 (without k a.spatial)) s out.rest
+      (o.0, (o.1.0, out.others)) w pos split.0 h split.2 in
+      (r.0, halts_alike (EndHolds ds split.0) (EndHolds ds rest) lines none w r.0 (start_at lines i s h) r.1)
 
-  pub drop_is_sound : (j : Judgement) (k : ℕ) → IsSound ds lines j (drop_answer j k)
-  drop_is_sound j k =
+  pub drop_is_sound : has_ends lines ≡ false → (j : Judgement) (k : ℕ) → IsSound ds lines j (drop_answer j k)
+  drop_is_sound none j k =
       runs_sound ds lines j _ (λ i a.
-      finds_sound ds lines (Runs i a) (slice_get a.spatial k) NoSuchAtom _ (λ x at. drop_sound i a k x at))
+      finds_sound ds lines (Runs i a) (slice_get a.spatial k) NoSuchAtom _ (λ x at. drop_sound none i a k x at))

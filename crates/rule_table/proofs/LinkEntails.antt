@@ -25,7 +25,7 @@ use Rattle.rule_table.proofs.Agreement.{IsBelow, heap_below}
 use Rattle.rule_table.proofs.Frames.{value_universal}
 use Rattle.rule_table.proofs.Appends.{pairs_follow_if}
 use Rattle.rule_table.proofs.Links.{mapped_hold, Chosen, left_over, length_left, none_left}
-use Rattle.rule_table.proofs.LinkRuns.{image_stack, image_value, all_chosen, all_places, each_follows, map_length}
+use Rattle.rule_table.proofs.LinkRuns.{nothing_over, image_stack, image_value, all_chosen, all_places, each_follows, map_length}
 use Rattle.rule_table.proofs.LinkRuns.{mapped-at, link_pairs}
 use Rattle.cyc_basics.proofs.Places.{tabulated-at}
 use Rattle.rule_table.proofs.Multisets.{covered_holds}
@@ -80,11 +80,8 @@ link_entails_sound ds lines a a' bs cs ps ms ks n below cs_below universal follo
         (all_chosen a.spatial i) h) o.1.1)
 
     nothing : taken.rest ≡ no_cells
-    nothing =
-        let l = length_left a.pure a.spatial (λ _. true) ms _ maps in
-        let l' = length-map a'.spatial (apply_spatial ps) in
-        let l'' = ap length (all_chosen a.spatial) in
-        none_left _ s o.0 (chosen (left_over ms (λ _. true)) a.spatial) taken.rest (omega arith) taken.others
+    nothing = nothing_over (at_stage ds) s o.0 a.pure a.spatial ms (map (apply_spatial ps) a'.spatial) stages taken.rest
+        maps (let l = length-map a'.spatial (apply_spatial ps) in omega arith) taken.others
 
     whole : taken.part ≡ h
     whole = empty_union_same (subst (λ g. IsUnion g taken.part h) nothing (union_comm taken.union))

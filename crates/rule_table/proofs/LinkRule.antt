@@ -33,6 +33,9 @@ use Rattle.rule_table.specs.Tests.{same_term, follows, has_number}
 use Rattle.rule_table.specs.LinkTable.{first_of, fault_unless, keeps_below, pure_fault, matches_some, spatial_fault}
 use Rattle.rule_table.specs.LinkTable.{counts_agree, same_atoms, all_follow, covers_some, disjunct_fault, parts_fault}
 use Rattle.rule_table.specs.LinkTable.{link_fault, link_premise}
+use Rattle.rule_table.specs.RuleBook.{leaves_nothing}
+use Rattle.std.specs.Prelude.{◌⊎◌}
+use Rattle.heap_formula.specs.Programs.{has_ends}
 use Rattle.rule_table.specs.Soundness.{HasVariables, AreUniversal}
 use Rattle.rule_table.proofs.Reflects.{same_term_is, follows_is, matches_is}
 use Rattle.heap_formula.proofs.AllMembers.{each_at}
@@ -188,16 +191,16 @@ parts_are a bs b cs whole link e =
 
 module _ (ds : List Definition) (lines : List Command) where
   pub link_is_sound : (bud companion : Judgement) (link : Link) (p : ℕ) → AreUniversal link.subst
-      → HasVariables lines p bud → link_fault bud companion link p ≡ None
+      → HasVariables lines p bud → leaves_nothing lines bud companion ≡ true → link_fault bud companion link p ≡ None
       → IsLocallySound ds lines bud (one (link_premise companion link))
-  link_is_sound (Entail a bs) (Runs i b) link p u v e = cc
-  link_is_sound (Runs i a) (Entail b cs) link p u v e = cc
-  link_is_sound (Entail a bs) (Entail b cs) link p u v e =
+  link_is_sound (Entail a bs) (Runs i b) link p u v whole e = cc
+  link_is_sound (Runs i a) (Entail b cs) link p u v whole e = cc
+  link_is_sound (Entail a bs) (Entail b cs) link p u v whole e =
       let f = parts_are a bs b cs (nat_le (length a.spatial) (length b.spatial)) link e in
       let n = max (heap_bound b) (max_of (map heap_bound cs)) in
       link_entails_sound ds lines a b bs cs link.subst link.map link.disjuncts n (omega arith) (omega arith)
       (image_universal link.subst u) f.0 f.1 (leb-true _ _ f.2) f.3
-  link_is_sound (Runs i a) (Runs k b) link p u v e =
+  link_is_sound (Runs i a) (Runs k b) link p u v whole e =
       let f = none_of_two (fault_unless (nat_eq i k) LineDiffers) _ e in
       let g = none_of_two (fault_unless (keeps_below link.subst p) LinkProgramVariable)
       (parts_fault a [] b [] true link) f.1 in
@@ -208,4 +211,9 @@ module _ (ds : List Definition) (lines : List Command) where
       let n = max (heap_bound b) (program_variables lines) in
       subst (λ m. IsLocallySound ds lines (Runs i a) (one (link_premise (Runs m b) link))) same
       (link_runs_sound ds lines i a b link.subst link.map n (omega arith) (omega arith)
-      (λ q lt. kept q (omega arith)) h.0 h.1)
+      (λ q lt. kept q (omega arith)) h.0 h.1 (none_or_whole (has_ends lines) whole))
+    where
+      none_or_whole : (ends : Bool) → (not ends || nat_le (length a.spatial) (length b.spatial)) ≡ true
+          → (ends ≡ false) ⊎ (length a.spatial ≤ length b.spatial)
+      none_or_whole false e = inl refl
+      none_or_whole true e = inr (leb-true _ _ e)

@@ -9,7 +9,7 @@ use Rattle.heap_formula.specs.declared.atoms.Spatial.{Spatial}
 use Rattle.heap_formula.specs.declared.atoms.Spatial.TheVariants.{Cell, Pred}
 use Rattle.heap_formula.specs.declared.commands.Command.{Command}
 use Rattle.heap_formula.specs.declared.commands.Command.TheVariants.{Assign, Load, Store, New, Free, IfEq, IfNeq, IfAny}
-use Rattle.heap_formula.specs.declared.commands.Command.TheVariants.{Goto, Stop}
+use Rattle.heap_formula.specs.declared.commands.Command.TheVariants.{Goto, Stop, Ends}
 use Rattle.heap_formula.specs.declared.judgements.Judgement.{Judgement}
 use Rattle.heap_formula.specs.declared.judgements.Judgement.TheVariants.{Term as Runs}
 use Rattle.heap_formula.specs.declared.judgements.Premise.{Premise}
@@ -21,7 +21,7 @@ use Rattle.heap_formula.specs.Positions.{same_pairs, kept_pairs}
 use Rattle.heap_formula.specs.Substitution.{apply_term, apply_heap}
 use Rattle.rule_table.specs.Answer.{Answer, finds, runs, limited, one, two}
 use Rattle.rule_table.specs.Tests.{equated}
-use Rattle.rule_table.specs.Table.{without_spatial}
+use Rattle.rule_table.specs.Table.{without_spatial, with_right}
 
 -- a cell of a list, with its place
 pub record Found : Type 0 where
@@ -69,6 +69,7 @@ at_line i a b = record { judgement = Runs i b; pairs = same_pairs a.spatial }
 -- the command at line i, from a, n being fresh
 abbrev pub command_answer : Limits → ℕ → SymbolicHeap → ℕ → Command → Answer
 command_answer most i a n Stop = Ok []
+command_answer most i a n (Ends bs) = limited most (one (with_right a bs))
 command_answer most i a n (IfAny j) = limited most (two (at_line j a a) (at_line (i + 1) a a))
 command_answer most i a n (Goto j) = limited most (one (at_line j a a))
 command_answer most i a n (IfEq t u j) =

@@ -4,7 +4,7 @@ use Rattle.heap_formula.specs.declared.commands.Command.{Command}
 use Rattle.heap_formula.specs.declared.judgements.Judgement.{Judgement}
 use Rattle.heap_formula.specs.declared.judgements.Judgement.TheVariants.{Entail, Term as Runs}
 use Rattle.heap_formula.specs.declared.commands.Command.TheVariants.{Assign, Load, Store, New, Free, IfEq, IfNeq, IfAny}
-use Rattle.heap_formula.specs.declared.commands.Command.TheVariants.{Goto, Stop}
+use Rattle.heap_formula.specs.declared.commands.Command.TheVariants.{Goto, Stop, Ends}
 use Rattle.heap_formula.specs.Closedness.{IsUniversal, IsUniversalHeap}
 use Rattle.heap_formula.specs.Judgements.{antecedent}
 use Rattle.heap_formula.specs.declared.judgements.Premise.{Premise}
@@ -27,7 +27,7 @@ abbrev pub HasVariables : List Command → ℕ → Judgement → Type 0
 HasVariables lines p (Entail a bs) = Unit {0}
 HasVariables lines p (Runs i a) = program_variables lines ≤ p
 
--- a command as programs have it: its terms are variables or nil, and a new cell has fields
+-- a command as programs have it: its terms outside ends are variables or nil, and a new cell has fields
 abbrev pub IsCommand : Command → Type 0
 IsCommand (Assign x t) = IsUniversal t
 IsCommand (Load x t k) = IsUniversal t
@@ -39,6 +39,7 @@ IsCommand (IfNeq t u j) = IsUniversal t × IsUniversal u
 IsCommand (IfAny j) = Unit {0}
 IsCommand (Goto j) = Unit {0}
 IsCommand Stop = Unit {0}
+IsCommand (Ends bs) = Unit {0}
 
 -- the substitution's values are no existentials
 abbrev pub AreUniversal : List (ℕ × Term) → Type 0

@@ -102,6 +102,17 @@ pub fn with_pure_atom(
     with_pure_atoms(alloc, judgement, pure)
 }
 
+/// The entailment of copies of the disjuncts by a copy of the antecedent, each predicate atom being paired with itself.
+pub fn with_disjuncts(alloc: Global, a: &Heap, bs: &Disjuncts) -> Result<Premise, OutOfMemory>
+    ensures { IfOk result (λ p. p ≡ with_right a.now bs.now) }
+{
+    let pairs = pairs_of_same(alloc, a.spatial())?;
+    Ok(Premise {
+        judgement: Judgement::Entail(a.clone()?, bs.clone()?),
+        pairs,
+    })
+}
+
 /// The entailment of one disjunct by a copy of the antecedent, each predicate atom being paired with itself.
 pub fn with_disjunct(alloc: Global, a: &Heap, b: Heap) -> Result<Premise, OutOfMemory>
     ensures { IfOk result (λ p. p ≡ with_right a.now (b ∷ [])) }

@@ -194,4 +194,4 @@ precondition_known r =
     let tree = tree_of_run r in
     let parts = faultless tree r.flawless in
     heap_defined (allowed tree) r.defs.list parts.definitions true Outside (from_place tree + 3)
-    r.precondition r.fits.1.1.0.1.1.1 parts.precondition
+    r.precondition r.fits.1.1.0.1.1.1.1 parts.precondition

@@ -1,6 +1,6 @@
 -- Numbers, cells, picks and outcomes that pass the tests have a text, and cells and picks have no flaw.
 use Rattle.std.proofs.Common.{◌≡◌, ℕ, suc, ◌+◌, ◌*◌, ◌<◌, ◌≤◌, ◌^◌, Bool, true, false, List, [], ◌∷◌, length, map}
-use Rattle.std.proofs.Common.{get_or, Option, Some, None, refl, sym, ap, subst, ◌∙◌, arith}
+use Rattle.std.proofs.Common.{get_or, Option, Some, None, refl, sym, ap, subst, ◌∙◌, inl, inr, arith}
 use Rattle.std.specs.Prelude.{◌&&◌, nat_lt, nat_le}
 use Rattle.std.specs.List.{list_all}
 use Rattle.std.specs.FinMap.{entries, len, len-entries}
@@ -21,15 +21,17 @@ use Rattle.heap_syntax.specs.Words.{comma, semicolon, closing}
 use Rattle.heap_reader.specs.Flaws.{over_if, listed_flaw}
 use Rattle.formula_reader.proofs.Lists.{listed_fits, none_later}
 use Rattle.proof_file.proofs.Universal.{each_passes}
+use Rattle.model_file.specs.declared.version.ModelVersion.{ModelVersion}
 use Rattle.model_file.specs.Grammar.{numbers, values, cell, some_cell, cells1, cells, to_cell}
 use Rattle.model_file.specs.Flaws.{stack_flaw, cells_flaw}
 use Rattle.model_file.specs.Written.{cells_tree}
 use Rattle.model_file.proofs.Parts.{IsFine}
 use Rattle.model_file.proofs.SortedCells.{cell_found, cells_right}
 use Rattle.run_file.specs.declared.tree.Outcome.{Outcome}
-use Rattle.run_file.specs.declared.tree.Outcome.TheVariants.{Faults, Repeats, Grows}
+use Rattle.run_file.specs.declared.tree.Outcome.TheVariants.{Faults, Repeats, Grows, Breaks}
 use Rattle.run_file.specs.Grammar.{pick, some_pick, picks1, picks, then_step, faulting, repeating, outcome}
-use Rattle.run_file.specs.Grammar.{value_pair, some_pair, value_pairs, growing}
+use Rattle.run_file.specs.Grammar.{value_pair, some_pair, value_pairs, growing, breaking, has_breaks}
+use Rattle.run_file.specs.Grammar.{breaking_or_growing}
 use Rattle.run_file.specs.Spans.{pick_span}
 use Rattle.run_file.specs.Flaws.{pick_flaw, picks_flaw}
 use Rattle.run_file.specs.Limits.{is_short_number, are_short_numbers, are_fields, is_short_cell, is_short_entry}
@@ -206,11 +208,22 @@ growth_fits g e =
     let both = and-parts (is_short_number g.first && is_short_number g.again) (are_short_pairs g.renaming) e in
     (tt, (both_short g.first g.again both.0, pairs_fit g.renaming both.1))
 
-pub outcome_fits : (o : Outcome) → is_short_outcome o ≡ true → outcome.fits o
+growing_fits : (b : Bool) (g : Growth) → is_short_growth g ≡ true → (breaking_or_growing b).fits (inr g)
+unfolding breaking_or_growing
+growing_fits true g e = growth_fits g e
+growing_fits false g e = (tt, growth_fits g e)
+
+breaking_fits : (b : Bool) (n : ℕ) → b && is_short_number n ≡ true → (breaking_or_growing b).fits (inl n)
+unfolding breaking_or_growing breaking
+breaking_fits true n e = short_number n e
+breaking_fits false n e = absurd (let z : false ≡ true = e in cc)
+
+pub outcome_fits : (v : ModelVersion) (o : Outcome) → is_short_outcome v o ≡ true → (outcome v).fits o
 unfolding outcome faulting repeating then_step
-outcome_fits (Faults l n) e = (tt, both_short l n e)
-outcome_fits (Repeats m n) e = (tt, both_short m n e)
-outcome_fits (Grows g) e = (tt, growth_fits g e)
+outcome_fits v (Faults l n) e = (tt, both_short l n e)
+outcome_fits v (Repeats m n) e = (tt, both_short m n e)
+outcome_fits v (Grows g) e = (tt, growing_fits (has_breaks v) g e)
+outcome_fits v (Breaks n) e = (tt, breaking_fits (has_breaks v) n e)
 
 -- ---- the test of each address is that of its entry
 

@@ -7,7 +7,6 @@ mod WithinSpans
 mod Parts
 mod Taken
 mod EntryCells
-mod Lines
 mod RunsAgain
 mod Defined
 pub mod Readings

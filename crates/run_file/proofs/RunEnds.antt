@@ -1,5 +1,5 @@
 -- The texts of the grammar are of lexemes, and the end word stands last.
-use Rattle.std.proofs.Common.{◌≡◌, ℕ, true, List, refl, ◌⊎◌}
+use Rattle.std.proofs.Common.{◌≡◌, ℕ, Bool, true, false, List, refl, inr, ◌⊎◌}
 use Rattle.std.specs.Prelude.{codes}
 use Rattle.cyc_lex.specs.Word.{is_lexeme}
 use Rattle.cyc_lex.proofs.Letters.{letters-name}
@@ -17,6 +17,8 @@ use Rattle.heap_syntax.proofs.DefinitionEnds.{heap-of, definitions-inner}
 use Rattle.heap_syntax.specs.LineGrammar.{line_word}
 use Rattle.heap_syntax.proofs.CommandLaws.{lines-inner}
 use Rattle.proof_syntax.specs.Grammar.{variable, lines}
+use Rattle.heap_syntax.specs.NumberedEnds.{ends}
+use Rattle.heap_syntax.proofs.NumberedEndLaws.{ends-inner}
 use Rattle.model_file.specs.declared.version.ModelVersion.{ModelVersion}
 use Rattle.model_file.specs.Versions.{format_of, model_version}
 use Rattle.model_file.proofs.ModelEnds.{version-word}
@@ -28,7 +30,9 @@ use Rattle.run_file.specs.Grammar.{state_claimed, claim, to_pick, from_pick, pic
 use Rattle.run_file.specs.Grammar.{faulting, repeating, to_outcome, from_outcome, outcome, ending, course, Parts}
 use Rattle.run_file.specs.Grammar.{contents}
 use Rattle.run_file.specs.Grammar.{to_run, from_run, body, run, grows_word, with_word, to_pair, from_pair, value_pair}
-use Rattle.run_file.specs.Grammar.{some_pair, value_pairs, to_growth, from_growth, growing, Ends}
+use Rattle.run_file.specs.Grammar.{some_pair, value_pairs, to_growth, from_growth, growing, breaks_word, breaking}
+use Rattle.run_file.specs.Grammar.{has_breaks, IsGrowing, the_growth, breaking_or_growing, Ends}
+use Rattle.general_models.specs.declared.runs.growth.Growth.{Growth}
 use Rattle.general_models.specs.declared.runs.growth.ValuePair.{ValuePair}
 
 run-word : is_lexeme (run_word.word tt) ≡ true
@@ -55,6 +59,9 @@ faults-word = letters-name (codes "faults") refl
 repeats-word : is_lexeme (repeats_word.word tt) ≡ true
 repeats-word = letters-name (codes "repeats") refl
 
+breaks-word : is_lexeme (breaks_word.word tt) ≡ true
+breaks-word = letters-name (codes "breaks") refl
+
 step-word : is_lexeme (step_word.word tt) ≡ true
 step-word = letters-name (codes "step") refl
 
@@ -80,8 +87,8 @@ state_claimed-inner = after-inner from_word _ from-word
 claim-inner : (v : ModelVersion) → Inner (claim v)
 unfolding claim
 claim-inner v = seq-inner definitions _ definitions-inner
-    (seq-inner (lines (format_of v)) state_claimed (lines-inner (format_of v) variable variable-inner)
-    state_claimed-inner)
+    (seq-inner (lines (format_of v)) _ (lines-inner (format_of v) variable variable-inner)
+    (seq-inner (ends (format_of v)) state_claimed (ends-inner (format_of v)) state_claimed-inner))
 
 numbers-inner : (behind : Class (Unit {0})) → is_lexeme (behind.word tt) ≡ true → Inner (numbers behind)
 unfolding numbers
@@ -136,29 +143,37 @@ growing-inner =
     (seq-inner then_step _ then_step-inner (after-inner with_word _ with-word
     (after-inner opening value_pairs syms.opening_word value_pairs-inner)))))
 
-outcome-inner : Inner outcome
+breaking_or_growing-inner : (b : Bool) → Inner (breaking_or_growing b)
+unfolding breaking_or_growing breaking
+breaking_or_growing-inner true =
+    alt-inner (is_one breaks_word) _ _
+    (after-inner breaks_word _ breaks-word (after-inner step_word (one number) step-word number-inner)) growing-inner
+breaking_or_growing-inner false = shaped-inner {A = Growth} inr the_growth IsGrowing _ growing-inner
+
+outcome-inner : (v : ModelVersion) → Inner (outcome v)
 unfolding outcome faulting repeating
-outcome-inner =
+outcome-inner v =
     shaped-inner {A = Ends} to_outcome from_outcome Any _
     (alt-inner (is_one faults_word) _ _ (after-inner faults_word _ faults-word
     (after-inner line_word then_step line-word then_step-inner))
     (alt-inner (is_one repeats_word) _ _
     (after-inner repeats_word _ repeats-word (after-inner step_word then_step step-word then_step-inner))
-    growing-inner))
+    (breaking_or_growing-inner (has_breaks v))))
 
-ending-inner : Inner ending
+ending-inner : (v : ModelVersion) → Inner (ending v)
 unfolding ending
-ending-inner = before-inner _ last_word last-word (before-inner outcome semicolon syms.semicolon_word outcome-inner)
+ending-inner v =
+    before-inner _ last_word last-word (before-inner (outcome v) semicolon syms.semicolon_word (outcome-inner v))
 
-course-inner : Inner course
+course-inner : (v : ModelVersion) → Inner (course v)
 unfolding course
-course-inner = seq-inner state _ state-inner (after-inner picks_word _ picks-word
-    (seq-inner picks ending picks-inner ending-inner))
+course-inner v = seq-inner state _ state-inner (after-inner picks_word _ picks-word
+    (seq-inner picks (ending v) picks-inner (ending-inner v)))
 
 contents-inner : (v : ModelVersion) → Inner (contents v)
 contents-inner v =
     after-inner semicolon _ syms.semicolon_word (seq-inner (claim v) _ (claim-inner v)
-    (before-inner course semicolon syms.semicolon_word course-inner))
+    (before-inner (course v) semicolon syms.semicolon_word (course-inner v)))
 
 pub body-inner : Inner body
 unfolding body

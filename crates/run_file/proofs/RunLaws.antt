@@ -1,11 +1,11 @@
 -- The grammar of run files is lawful: what is read is spelled so, what is spelled is read, and a fault is exact.
-use Rattle.std.proofs.Common.{◌≡◌, ℕ, true, false, List, [], ◌∷◌, ◌++◌, is_some, refl, ap, inl, inr, ◌⊎◌}
+use Rattle.std.proofs.Common.{◌≡◌, ℕ, Bool, true, false, List, [], ◌∷◌, ◌++◌, is_some, refl, ap, inl, inr, ◌⊎◌}
 use Rattle.cyc_lex.specs.Word.{Word}
 use Rattle.general_models.specs.declared.runs.growth.Growth.{Growth}
 use Rattle.general_models.specs.declared.runs.growth.ValuePair.{ValuePair}
 use Rattle.general_models.specs.declared.runs.picks.Pick.{Pick}
 use Rattle.general_models.specs.declared.runs.picks.Pick.TheVariants.{Cell as CellPicked, Jumps}
-use Rattle.cyc_grammar.specs.Syntax.{Class, one, seq, alt, after, before, is_one}
+use Rattle.cyc_grammar.specs.Syntax.{Syntax, Class, one, seq, alt, after, before, is_one}
 use Rattle.cyc_grammar.specs.Classes.{the_end, number}
 use Rattle.cyc_grammar.proofs.Laws.{Lawful, Stops, Begins, BeginsNot, ClassLaw, one-law, seq-law, shaped-law, alt-law}
 use Rattle.cyc_grammar.proofs.Laws.{after-law, before-law, headed-law, or_empty-law, Stops-never}
@@ -20,21 +20,28 @@ use Rattle.heap_syntax.specs.LineGrammar as commands
 use Rattle.heap_syntax.proofs.CommandLaws.{lines-law, lines-end}
 use Rattle.proof_syntax.specs.Trees.{Line}
 use Rattle.proof_syntax.specs.Grammar.{variable, lines}
+use Rattle.heap_syntax.specs.EndGrammar as endings
+use Rattle.heap_syntax.specs.EndGrammar.{ends_word}
+use Rattle.heap_syntax.specs.NumberedEnds.{End, ends}
+use Rattle.heap_syntax.proofs.NumberedEndLaws.{ends-law, ends-end}
 use Rattle.proof_syntax.proofs.GrammarLaws.{dollar_variables}
 use Rattle.model_file.specs.declared.version.ModelVersion.{ModelVersion}
+use Rattle.model_file.specs.declared.version.ModelVersion.TheVariants.{One, Three}
 use Rattle.model_file.specs.Versions.{format_of, model_version}
 use Rattle.model_file.proofs.ModelLaws.{version-law}
 use Rattle.model_file.specs.Trees.{Cell}
 use Rattle.model_file.specs.Grammar.{stack_word, heap_word, numbers, values, to_cell, from_cell, cell, some_cell}
 use Rattle.model_file.specs.Grammar.{cells1, cells, state}
 use Rattle.run_file.specs.declared.tree.Outcome.{Outcome}
-use Rattle.run_file.specs.declared.tree.Outcome.TheVariants.{Faults, Repeats, Grows}
+use Rattle.run_file.specs.declared.tree.Outcome.TheVariants.{Faults, Repeats, Grows, Breaks}
 use Rattle.run_file.specs.Grammar.{picks_word, jump_word, next_word, faults_word, repeats_word, step_word}
-use Rattle.run_file.specs.Grammar.{state_claimed, claim, to_pick, from_pick, pick, some_pick, picks1, picks, then_step}
+use Rattle.run_file.specs.Grammar.{Claim, state_claimed, claim, to_pick, from_pick, pick, some_pick, picks1, picks}
+use Rattle.run_file.specs.Grammar.{then_step}
 use Rattle.run_file.specs.Grammar.{faulting, repeating, to_outcome, from_outcome, outcome, ending, course, Parts}
 use Rattle.run_file.specs.Grammar.{contents}
 use Rattle.run_file.specs.Grammar.{to_run, from_run, body, run, grows_word, with_word, to_pair, from_pair, value_pair}
-use Rattle.run_file.specs.Grammar.{some_pair, value_pairs, to_growth, from_growth, growing, Ends}
+use Rattle.run_file.specs.Grammar.{some_pair, value_pairs, to_growth, from_growth, growing, breaks_word, breaking}
+use Rattle.run_file.specs.Grammar.{has_breaks, IsGrowing, the_growth, breaking_or_growing, Ends}
 
 -- ---- the claim
 
@@ -47,28 +54,50 @@ state_claimed-law =
     (λ h f. heap-stops true (semicolon.word tt) refl h f)))
     (λ x y r fx fy h. Stops-never ((after given_word (before (heap (terms true)) semicolon)).words y ++ r)))
 
-lines-apart : (v : ModelVersion) (ls : List Line) (x : ℕ × Heap) (rest : List Word)
-    → Stops ((lines (format_of v)).more ls) (state_claimed.words x ++ rest)
-unfolding state_claimed
-lines-apart v ls x rest = lines-end (format_of v) variable (from_word.word tt) refl ls
+-- the ends, and what stands after them
+abbrev behind_lines : ModelVersion → Syntax (List End × (ℕ × Heap))
+behind_lines v = seq (ends (format_of v)) state_claimed
 
-definitions-apart : (v : ModelVersion) (ds : List Definition) (ls : List Line) (x : ℕ × Heap) (rest : List Word)
-    → Stops (definitions.more ds) ((seq (lines (format_of v)) state_claimed).words (ls, x) ++ rest)
-unfolding state_claimed commands.lines commands.line
-definitions-apart v ds [] x rest = definitions-end (from_word.word tt) refl ds
-definitions-apart v ds (l ∷ ls) x rest = definitions-end (commands.line_word.word tt) refl ds
+ends-apart : (v : ModelVersion) (es : List End) (x : ℕ × Heap) (rest : List Word)
+    → Stops ((ends (format_of v)).more es) (state_claimed.words x ++ rest)
+unfolding state_claimed
+ends-apart v es x rest = ends-end (format_of v) (from_word.word tt) refl es
+
+-- what goes on neither at the word "ends" nor at "from" stops before ends and the state
+stops-behind : (v : ModelVersion) (more : Word → Bool) (es : List End) (x : ℕ × Heap) (rest : List Word)
+    → more (ends_word.word tt) ≡ false → more (from_word.word tt) ≡ false
+    → Stops more ((behind_lines v).words (es, x) ++ rest)
+unfolding state_claimed endings.ends endings.end
+stops-behind One more es x rest h k = k
+stops-behind Three more [] x rest h k = k
+stops-behind Three more (e ∷ es) x rest h k = h
+
+lines-apart : (v : ModelVersion) (ls : List Line) (es : List End) (x : ℕ × Heap) (rest : List Word)
+    → Stops ((lines (format_of v)).more ls) ((behind_lines v).words (es, x) ++ rest)
+lines-apart v ls es x rest = stops-behind v ((lines (format_of v)).more ls) es x rest
+    (lines-end (format_of v) variable (ends_word.word tt) refl ls)
+    (lines-end (format_of v) variable (from_word.word tt) refl ls)
+
+definitions-apart : (v : ModelVersion) (ds : List Definition) (ls : List Line) (es : List End) (x : ℕ × Heap)
+    (rest : List Word)
+    → Stops (definitions.more ds) ((seq (lines (format_of v)) (behind_lines v)).words (ls, (es, x)) ++ rest)
+unfolding commands.lines commands.line
+definitions-apart v ds [] es x rest = stops-behind v (definitions.more ds) es x rest
+    (definitions-end (ends_word.word tt) refl ds) (definitions-end (from_word.word tt) refl ds)
+definitions-apart v ds (l ∷ ls) es x rest = definitions-end (commands.line_word.word tt) refl ds
 
 claim-law : (v : ModelVersion) → Lawful (claim v)
 unfolding claim
 claim-law v =
     let lines_of = lines (format_of v) in
-    seq-law definitions (seq lines_of state_claimed) definitions-law
-    (seq-law lines_of state_claimed (lines-law (format_of v) variable dollar_variables) state_claimed-law
-    (λ ls x r fl fx h. lines-apart v ls x r))
-    (λ ds p r fd fp h. definitions-apart v ds p.0 p.1 r)
+    seq-law definitions (seq lines_of (behind_lines v)) definitions-law
+    (seq-law lines_of (behind_lines v) (lines-law (format_of v) variable dollar_variables)
+    (seq-law (ends (format_of v)) state_claimed (ends-law (format_of v)) state_claimed-law
+    (λ es x r fe fx h. ends-apart v es x r))
+    (λ ls p r fl fp h. lines-apart v ls p.0 p.1 r))
+    (λ ds p r fd fp h. definitions-apart v ds p.0 p.1.0 p.1.1 r)
 
-claim-closed : (v : ModelVersion) (c : List Definition × (List Line × (ℕ × Heap))) (d : Word)
-    → (claim v).more c d ≡ false
+claim-closed : (v : ModelVersion) (c : Claim) (d : Word) → (claim v).more c d ≡ false
 unfolding claim state_claimed
 claim-closed v c d = refl
 
@@ -270,66 +299,104 @@ growing-closed : (g : Growth) (d : Word) → growing.more g d ≡ false
 unfolding growing
 growing-closed g d = value_pairs-closed g.renaming d
 
-outcome-law : Lawful outcome
-unfolding outcome faulting repeating growing
-outcome-law =
+breaking-law : Lawful breaking
+unfolding breaking
+breaking-law = after-law breaks_word _ (keyword-law _)
+    (after-law step_word (one number) (keyword-law _) (one-law number number-law))
+
+breaking_or_growing-law : (b : Bool) → Lawful (breaking_or_growing b)
+unfolding breaking_or_growing breaking growing
+breaking_or_growing-law true = alt-law (is_one breaks_word) breaking growing (λ n f. refl) (λ g f. refl)
+    breaking-law growing-law
+breaking_or_growing-law false = shaped-law {A = Growth} inr the_growth IsGrowing growing (λ x f. (refl, tt)) here
+    growing-law
+  where
+    here : (x : ℕ ⊎ Growth) → IsGrowing x → inr (the_growth x) ≡ x
+    here (inl n) h = absurd h
+    here (inr g) h = refl
+
+breaking_or_growing-closed : (b : Bool) (x : ℕ ⊎ Growth) (d : Word) → (breaking_or_growing b).more x d ≡ false
+unfolding breaking_or_growing breaking
+breaking_or_growing-closed true (inl n) d = refl
+breaking_or_growing-closed true (inr g) d = growing-closed g d
+breaking_or_growing-closed false x d = growing-closed (the_growth x) d
+
+-- other outcomes begin with other words
+breaking_or_growing-not : (b : Bool) (x : ℕ ⊎ Growth) → BeginsNot (is_one faults_word) ((breaking_or_growing b).words x)
+    × BeginsNot (is_one repeats_word) ((breaking_or_growing b).words x)
+unfolding breaking_or_growing breaking growing
+breaking_or_growing-not true (inl n) = (refl, refl)
+breaking_or_growing-not true (inr g) = (refl, refl)
+breaking_or_growing-not false x = (refl, refl)
+
+abbrev others : ModelVersion → Syntax (ℕ ⊎ Growth)
+others v = breaking_or_growing (has_breaks v)
+
+outcome-law : (v : ModelVersion) → Lawful (outcome v)
+unfolding outcome faulting repeating
+outcome-law v =
     shaped-law {A = Ends} to_outcome from_outcome Any _ (λ x f. (there x, tt)) (λ o h. here o)
-    (alt-law (is_one faults_word) faulting (alt (is_one repeats_word) repeating growing) (λ p f. refl)
+    (alt-law (is_one faults_word) faulting (alt (is_one repeats_word) repeating (others v)) (λ p f. refl)
     (λ x f. no_fault x)
     (after-law faults_word _ (keyword-law _) (after-law commands.line_word then_step (keyword-law _) then_step-law))
-    (alt-law (is_one repeats_word) repeating growing (λ p f. refl) (λ g f. refl)
+    (alt-law (is_one repeats_word) repeating (others v) (λ p f. refl)
+    (λ x f. (breaking_or_growing-not (has_breaks v) x).1)
     (after-law repeats_word _ (keyword-law _) (after-law step_word then_step (keyword-law _) then_step-law))
-    growing-law))
+    (breaking_or_growing-law (has_breaks v))))
   where
     there : (x : Ends) → from_outcome (to_outcome x) ≡ x
     there (inl p) = refl
     there (inr (inl p)) = refl
-    there (inr (inr g)) = refl
+    there (inr (inr (inl n))) = refl
+    there (inr (inr (inr g))) = refl
 
     here : (o : Outcome) → to_outcome (from_outcome o) ≡ o
     here (Faults l n) = refl
     here (Repeats m n) = refl
     here (Grows g) = refl
+    here (Breaks n) = refl
 
-    no_fault : (x : (ℕ × ℕ) ⊎ Growth) → BeginsNot (is_one faults_word)
-        ((alt (is_one repeats_word) repeating growing).words x)
+    no_fault : (x : (ℕ × ℕ) ⊎ (ℕ ⊎ Growth)) → BeginsNot (is_one faults_word)
+        ((alt (is_one repeats_word) repeating (others v)).words x)
     no_fault (inl p) = refl
-    no_fault (inr g) = refl
+    no_fault (inr x) = (breaking_or_growing-not (has_breaks v) x).0
 
-outcome-closed : (o : Outcome) (d : Word) → outcome.more o d ≡ false
+outcome-closed : (v : ModelVersion) (o : Outcome) (d : Word) → (outcome v).more o d ≡ false
 unfolding outcome faulting repeating
-outcome-closed (Faults l n) d = then_step-closed (l, n) d
-outcome-closed (Repeats m n) d = then_step-closed (m, n) d
-outcome-closed (Grows g) d = growing-closed g d
+outcome-closed v (Faults l n) d = then_step-closed (l, n) d
+outcome-closed v (Repeats m n) d = then_step-closed (m, n) d
+outcome-closed v (Grows g) d = breaking_or_growing-closed (has_breaks v) (inr g) d
+outcome-closed v (Breaks n) d = breaking_or_growing-closed (has_breaks v) (inl n) d
 
-ending-law : Lawful ending
+ending-law : (v : ModelVersion) → Lawful (ending v)
 unfolding ending
-ending-law = before-law (before outcome semicolon) last_word (keyword-law _)
-    (before-law outcome semicolon (symbol-law _) outcome-law (λ o f. outcome-closed o (semicolon.word tt)))
+ending-law v = before-law (before (outcome v) semicolon) last_word (keyword-law _)
+    (before-law (outcome v) semicolon (symbol-law _) (outcome-law v) (λ o f. outcome-closed v o (semicolon.word tt)))
     (λ o f. refl)
 
 -- ---- run files
 
-course-law : Lawful course
+course-law : (v : ModelVersion) → Lawful (course v)
 unfolding course
-course-law =
-    seq-law state (after picks_word (seq picks ending)) state-law
-    (after-law picks_word _ (keyword-law _) (seq-law picks ending picks-law ending-law
-    (λ x y r fx fy h. closed-stops picks (λ x d f. picks-closed x d) x fx (ending.words y ++ r))))
+course-law v =
+    seq-law state (after picks_word (seq picks (ending v))) state-law
+    (after-law picks_word _ (keyword-law _) (seq-law picks (ending v) picks-law (ending-law v)
+    (λ x y r fx fy h. closed-stops picks (λ x d f. picks-closed x d) x fx ((ending v).words y ++ r))))
     (λ x y r fx fy h. closed-stops state (λ x d f. state-closed x d) x fx
-    ((after picks_word (seq picks ending)).words y ++ r))
+    ((after picks_word (seq picks (ending v))).words y ++ r))
 
-course-closed : (c : (List ℕ × List Cell) × (List Pick × Outcome)) (d : Word) → course.more c d ≡ false
+course-closed : (v : ModelVersion) (c : (List ℕ × List Cell) × (List Pick × Outcome)) (d : Word)
+    → (course v).more c d ≡ false
 unfolding course ending
-course-closed c d = refl
+course-closed v c d = refl
 
 contents-law : (v : ModelVersion) → Lawful (contents v)
 contents-law v =
     after-law semicolon _ (symbol-law _)
-    (seq-law (claim v) (before course semicolon) (claim-law v)
-    (before-law course semicolon (symbol-law _) course-law (λ c f. course-closed c (semicolon.word tt)))
+    (seq-law (claim v) (before (course v) semicolon) (claim-law v)
+    (before-law (course v) semicolon (symbol-law _) (course-law v) (λ c f. course-closed v c (semicolon.word tt)))
     (λ x y r fx fy h. closed-stops (claim v) (λ x d f. claim-closed v x d) x fx
-    ((before course semicolon).words y ++ r)))
+    ((before (course v) semicolon).words y ++ r)))
 
 body-law : Lawful body
 unfolding body

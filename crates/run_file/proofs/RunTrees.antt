@@ -3,7 +3,6 @@ use Rattle.std.proofs.Common.{◌≡◌, ℕ, ◌<◌, ◌≤◌, ◌^◌, true,
 use Rattle.std.specs.Prelude.{◌&&◌}
 use Rattle.std.specs.List.{list_all}
 use Rattle.cyc_basics.specs.Limits.{AreWithin}
-use Rattle.heap_formula.specs.declared.commands.Command.TheVariants as commands
 use Rattle.heap_formula.specs.declared.commands.Command.{Command}
 use Rattle.heap_formula.specs.declared.judgements.Judgement.{Judgement}
 use Rattle.heap_formula.specs.declared.judgements.Judgement.TheVariants.{Term as Halting}
@@ -12,12 +11,13 @@ use Rattle.heap_formula.specs.Symbolic.{SymbolicHeap}
 use Rattle.heap_formula.specs.Cells.{Cells, IsHeap}
 use Rattle.cyc_basics.specs.declared.limits.Limits.{Limits}
 use Rattle.heap_formula.specs.Words.{Each}
-use Rattle.heap_formula.proofs.AllMembers.{each_imply}
 use Rattle.goto_lang.specs.Lines.{IsProgram}
-use Rattle.rule_book.specs.Limits.{IsJudgementWithin, IsDefinitionWithin}
+use Rattle.rule_book.specs.Limits.{IsJudgementWithin, IsDefinitionWithin, AreEndsWithin}
 use Rattle.general_models.specs.declared.runs.picks.Pick.{Pick}
 use Rattle.cyc_lex.proofs.BoolParts.{and-parts}
+use Rattle.heap_syntax.specs.declared.version.Version.{Version}
 use Rattle.heap_syntax.specs.declared.version.Version.TheVariants as formats
+use Rattle.proof_file.specs.Upgrades.{upgraded}
 use Rattle.heap_reader.specs.Flaws.{or_later}
 use Rattle.heap_syntax.specs.DefinitionGrammar.{definitions}
 use Rattle.proof_file.specs.Flaws.{judgement_flaw}
@@ -30,12 +30,13 @@ use Rattle.formula_reader.proofs.Names.{few_parameters, heads_of}
 use Rattle.formula_reader.proofs.Heaps.{heap_fits}
 use Rattle.formula_reader.proofs.Judgements.{judgement_flawless}
 use Rattle.formula_reader.proofs.ProgramLines.{program_fits, lines_long, commands_universal}
+use Rattle.formula_reader.proofs.ProgramEnds.{ends_fit}
 use Rattle.formula_reader.proofs.DefinitionTrees.{definitions_fit}
 use Rattle.formula_reader.proofs.FileTrees.{file_flawless}
 use Rattle.formula_reader.proofs.Raised.{judgement_raised, definitions_raised, commands_raised}
+use Rattle.formula_reader.proofs.Raised.{ends_within_raised}
 use Rattle.formula_reader.proofs.Within.{problem_keeps}
 use Rattle.model_file.specs.declared.version.ModelVersion.{ModelVersion}
-use Rattle.model_file.specs.declared.version.ModelVersion.TheVariants.{One, Three}
 use Rattle.model_file.specs.Versions.{format_of, model_limits, version_for}
 use Rattle.model_file.proofs.Parts.{eight_fields, limits_fit, within_version}
 use Rattle.model_file.specs.Grammar.{state}
@@ -51,25 +52,26 @@ use Rattle.run_file.proofs.Fields as fields
 
 module _ (v : ModelVersion) (ds : List Definition) (cs : List Command) (i : ℕ) (a : SymbolicHeap) (s : List ℕ)
     (h : Cells) (ps : List Pick) (o : Outcome) (proper : IsHeap h)
-    (short : is_short_run (model_limits v) s h ps o ≡ true) where
+    (short : is_short_run v s h ps o ≡ true) where
   -- what the tests say
   record Tests : Type 0 where
     pub stack : is_short_stack s ≡ true
     pub heap : is_short_heap (model_limits v) h ≡ true
     pub picks : list_all (is_short_pick (model_limits v)) ps ≡ true
-    pub outcome : is_short_outcome o ≡ true
+    pub outcome : is_short_outcome v o ≡ true
 
   tests : Tests
   tests =
       let most = model_limits v in
       let picks_short = list_all (is_short_pick most) ps in
-      let whole = and-parts (is_short_stack s && is_short_heap most h && picks_short) (is_short_outcome o) short in
+      let whole = and-parts (is_short_stack s && is_short_heap most h && picks_short) (is_short_outcome v o) short in
       let state = and-parts (is_short_stack s && is_short_heap most h) picks_short whole.0 in
       let both = and-parts (is_short_stack s) (is_short_heap most h) state.0 in
       record { stack = both.0; heap = both.1; picks = state.1; outcome = whole.1 }
 
   module _ (w : Each (IsDefinitionWithin (model_limits v) ds) ds) (program : IsProgram cs)
       (known : Each (IsCommandOf (format_of v) (model_limits v)) cs)
+      (ended : AreEndsWithin (model_limits v) ds cs)
       (within : IsJudgementWithin (model_limits v) ds (length cs) (Halting i a)) where
     pub tree_fits : HaveFreeNames ds → run.fits (tree_of v ds cs i a s h ps o)
     unfolding run body claim state_claimed definitions course state ending
@@ -85,11 +87,14 @@ module _ (v : ModelVersion) (ds : List Definition) (cs : List Command) (i : ℕ)
             (
               (
                 definitions_fit most (limits_fit v) ds free w,
-                (program_fits (format_of v) most cs program known, (line, state)),
+                (
+                  program_fits (format_of v) most cs program known,
+                  (ends_fit (format_of v) most ds cs free program ended known, (line, state)),
+                ),
               ),
               (
                 (fields.stack_fits s tests.stack, fields.heap_fits most h proper tests.heap),
-                (fields.picks_fit most ps tests.picks, fields.outcome_fits o tests.outcome),
+                (fields.picks_fit most ps tests.picks, fields.outcome_fits v o tests.outcome),
               ),
             ),
           ),
@@ -100,7 +105,7 @@ module _ (v : ModelVersion) (ds : List Definition) (cs : List Command) (i : ℕ)
         let most = model_limits v in
         let r = tree_of v ds cs i a s h ps o in
         let picks = picks_flaw most (first_pick r) ps in
-        let front : front_flaw r ≡ None = file_flawless (format_of v) most refl ds cs [] w program known
+        let front : front_flaw r ≡ None = file_flawless (format_of v) most refl ds cs [] w program known ended
         tt own count_few (omega arith) in
         let claimed : claim_flaw r ≡ None =
         subst (λ (n : ℕ). judgement_flaw most (heads_of ds ds) n (from_place r)
@@ -116,20 +121,11 @@ module _ (v : ModelVersion) (ds : List Definition) (cs : List Command) (i : ℕ)
 
 -- ---- of a problem
 
--- a run file has the commands that version 2 has
-command_known : (v : ModelVersion) (most : Limits) (c : Command) → IsCommandOf formats.Two most c
-    → IsCommandOf (format_of v) most c
-command_known One most c w = w
-command_known Three most (commands.Assign x t) w = tt
-command_known Three most (commands.Load x t k) w = w
-command_known Three most (commands.Store t k u) w = w
-command_known Three most (commands.New x k) w = w
-command_known Three most (commands.Free t) w = tt
-command_known Three most (commands.IfEq t u j) w = tt
-command_known Three most (commands.IfNeq t u j) w = tt
-command_known Three most (commands.IfAny j) w = refl
-command_known Three most (commands.Goto j) w = tt
-command_known Three most commands.Stop w = tt
+-- a run file is one of the version that the problem's is upgraded to
+same_format : (version : Version) → upgraded version ≡ format_of (version_for version)
+same_format formats.One = refl
+same_format formats.Two = refl
+same_format formats.Three = refl
 
 -- the version of its run files
 abbrev pub run_version : Problem → ModelVersion
@@ -155,22 +151,27 @@ module _ (p : Problem) (i : ℕ) (a : SymbolicHeap) (goal : p.goal ≡ Halting i
 
   pub commands_known : Each (IsCommandOf (format_of (run_version p)) (run_limits p)) p.program
   commands_known =
-      each_imply (IsCommandOf formats.Two (run_limits p)) (IsCommandOf (format_of (run_version p)) (run_limits p))
-      (command_known (run_version p) (run_limits p)) p.program
+      subst (λ (version : Version). Each (IsCommandOf version (run_limits p)) p.program) (same_format p.version)
       (commands_raised p.defs.most (run_limits p) (wider p) p.version p.program (problem_keeps p).commands)
 
+  pub ends_within : AreEndsWithin (run_limits p) p.defs.list p.program
+  ends_within = ends_within_raised p.defs.most (run_limits p) (wider p) p.defs.list p.program (problem_keeps p).ends
+
 module _ (p : Problem) (i : ℕ) (a : SymbolicHeap) (goal : p.goal ≡ Halting i a) (s : List ℕ) (h : Cells)
-    (ps : List Pick) (o : Outcome) (proper : IsHeap h) (short : is_short_run (run_limits p) s h ps o ≡ true) where
+    (ps : List Pick) (o : Outcome) (proper : IsHeap h) (short : is_short_run (run_version p) s h ps o ≡ true) where
   pub run_fits : run.fits (tree_of (run_version p) p.defs.list p.program i a s h ps o)
   run_fits =
       tree_fits (run_version p) p.defs.list p.program i a s h ps o proper short (definitions_within p i a goal)
-      (problem_keeps p).program (commands_known p i a goal) (claim_within p i a goal) (problem_keeps p).free
+      (problem_keeps p).program (commands_known p i a goal) (ends_within p i a goal)
+      (claim_within p i a goal) (problem_keeps p).free
 
   pub run_flawless : run_flaw (tree_of (run_version p) p.defs.list p.program i a s h ps o) ≡ None
   run_flawless =
       tree_flawless (run_version p) p.defs.list p.program i a s h ps o proper short (definitions_within p i a goal)
-      (problem_keeps p).program (commands_known p i a goal) (claim_within p i a goal)
+      (problem_keeps p).program (commands_known p i a goal) (ends_within p i a goal)
+      (claim_within p i a goal)
       (problem_keeps p).own (problem_keeps p).few
 
 pub program_universal : (p : Problem) → are_universal_commands p.program ≡ true
-program_universal p = commands_universal p.program (problem_keeps p).program.universal
+program_universal p =
+    commands_universal p.version p.defs.most p.program (problem_keeps p).program.universal (problem_keeps p).commands

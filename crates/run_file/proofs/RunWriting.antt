@@ -11,16 +11,17 @@ use Rattle.run_file.specs.Grammar.{run_word, claim, claim_of, course, course_of,
 -- the whole of a run file
 pub body-wrote : (old a b c d e f g : Written) (r : Run) → a ≡ write old (cyclist_word.word tt)
     → b ≡ write a (run_word.word tt) → c ≡ write b (model_version.word r.version) → d ≡ write c (semicolon.word tt)
-    → e ≡ write_all d ((claim r.version).words (claim_of r)) → f ≡ write_all e (course.words (course_of r))
+    → e ≡ write_all d ((claim r.version).words (claim_of r))
+    → f ≡ write_all e ((course r.version).words (course_of r))
     → g ≡ write f (semicolon.word tt) → g ≡ write_all old (body.words r)
 unfolding body
 body-wrote old a b c d e f g r ha hb hc hd he hf hg =
-    let last : List Word = course.words (course_of r) ++ semicolon.word tt ∷ [] in
+    let last : List Word = (course r.version).words (course_of r) ++ semicolon.word tt ∷ [] in
     let rest : List Word = (claim r.version).words (claim_of r) ++ last in
     wrote-behind old a g (cyclist_word.word tt)
     (run_word.word tt ∷ model_version.word r.version ∷ semicolon.word tt ∷ rest) ha
     (wrote-behind a b g (run_word.word tt) (model_version.word r.version ∷ semicolon.word tt ∷ rest) hb
     (wrote-behind b c g (model_version.word r.version) (semicolon.word tt ∷ rest) hc
     (wrote-behind c d g (semicolon.word tt) rest hd
-    (wrote-ended d e f g ((claim r.version).words (claim_of r)) (course.words (course_of r)) (semicolon.word tt) he
+    (wrote-ended d e f g ((claim r.version).words (claim_of r)) ((course r.version).words (course_of r)) (semicolon.word tt) he
     hf hg))))

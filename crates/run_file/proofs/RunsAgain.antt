@@ -21,7 +21,7 @@ use Rattle.heap_reader.specs.Flaws.{over_if, or_later, listed_flaw}
 use Rattle.heap_reader.specs.Values.{heap_value}
 use Rattle.heap_reader.proofs.NoFlaw.{neither, none_later, not_over, positive}
 use Rattle.heap_reader.proofs.Members.{behind_fit}
-use Rattle.heap_reader.specs.LineValues.{program_value}
+use Rattle.heap_reader.specs.EndValues.{ended_value}
 use Rattle.heap_syntax.specs.DefinitionGrammar.{definition}
 use Rattle.heap_reader.specs.declared.definitions.scope.Scope.TheVariants.{Outside}
 use Rattle.heap_reader.specs.DefinitionSpans.{definition_span}
@@ -31,7 +31,10 @@ use Rattle.heap_reader.specs.Written.{definition_tree}
 use Rattle.heap_reader.proofs.TreesAgain.{listed_again, found_name, heap_again, definition_again}
 use Rattle.heap_reader.proofs.ValuesAgain.{each_known, found_place, heap_known, definition_known, definitions_fit}
 use Rattle.proof_file.specs.Building.{front_of}
-use Rattle.proof_file.specs.Flaws.{first_line}
+use Rattle.proof_file.specs.Flaws.{first_line, first_end}
+use Rattle.proof_file.proofs.LinesAgain.{program_lines_again, program_ends_again, program_known}
+use Rattle.model_file.specs.Versions.{format_of}
+use Rattle.heap_syntax.specs.NumberedEnds.{ends}
 use Rattle.proof_file.proofs.ReadableNodes.{nodes_readable}
 use Rattle.model_file.specs.Trees.{Cell}
 use Rattle.model_file.specs.Grammar.{numbers, values, cell, cells1, cells, state, from_cell, to_cell}
@@ -51,7 +54,6 @@ use Rattle.run_file.specs.Flaws.{first_pick, front_flaw, claim_flaw, state_given
 use Rattle.run_file.specs.Small.{IsShortPick}
 use Rattle.run_file.specs.Written.{tree_of}
 use Rattle.run_file.specs.Reading.{IsRunOf}
-use Rattle.run_file.proofs.Lines.{lines_again, commands_known}
 use Rattle.run_file.proofs.Parts.{faultless}
 
 -- ---- cells that fit
@@ -126,7 +128,7 @@ sorted_flawless r e =
 
 -- the values of a tree without a flaw have the tree in order
 pub tree_again : (r : Run) → run_flaw r ≡ None
-    → tree_of r.version (map (definition_value (headings r.definitions)) r.definitions) (program_value r.lines)
+    → tree_of r.version (map (definition_value (headings r.definitions)) r.definitions) (ended_value term_value (headings r.definitions) r.lines r.ends)
     r.line (heap_value term_value (headings r.definitions) r.precondition) r.stack (cells_value r.cells) r.picks
     r.outcome ≡ sorted r
 tree_again r e =
@@ -136,11 +138,18 @@ tree_again r e =
     let parts = faultless r e in
     let definitions = listed_again (definition_flaw (allowed r) hs) definition_span (definition_value hs)
     (definition_tree vs) (definition_again (allowed r) hs vs (found_name hs ds)) 0 4 ds parts.definitions in
-    let lines = lines_again (allowed r) (length r.lines) 0 (first_line (front_of (format r) ds r.lines)) r.lines
-    parts.program in
+    let front = front_of (format r) ds r.lines r.ends in
+    let lines = program_lines_again (allowed r) hs vs (found_name hs ds) r.lines r.ends (first_end front) parts.ends
+    (first_line front) parts.program in
+    let ends = program_ends_again (allowed r) hs vs (found_name hs ds) r.lines r.ends (first_end front) parts.ends in
     let precondition = heap_again (allowed r) hs vs (found_name hs ds) Outside (from_place r + 3)
     r.precondition parts.precondition in
-    λ i. record (sorted r) { definitions = definitions i; lines = lines i; precondition = precondition i }
+    λ i. record (sorted r) {
+      definitions = definitions i;
+      lines = lines i;
+      ends = ends i;
+      precondition = precondition i;
+    }
 
 -- ---- no existential variable stands in the precondition
 
@@ -178,16 +187,20 @@ run_known r =
       most = r.limit;
       definitions = sym (each_known (definition_tree ds) (definition_value hs) definition.fits
           (definition_known ds hs placed) ds (definitions_fit tree.definitions r.fits.1.1.0.0));
-      program = sym (commands_known 0 r.program r.universal);
+      program = sym (program_known ds hs placed (format_of r.version) r.program r.universal r.fits.1.1.0.1.1.0);
       line = refl;
-      precondition = sym (heap_known ds hs placed true r.precondition r.fits.1.1.0.1.1.1);
+      precondition = sym (heap_known ds hs placed true r.precondition r.fits.1.1.0.1.1.1.1);
       stack = refl;
       heap = sym (ap from_entries (entries_again (entries r.heap)) ∙ heap_is r.heap);
       picks = refl;
       outcome = refl;
     }
 
--- ---- numbers, cells and picks of a tree that fits
+-- ---- ends, numbers, cells and picks of a tree that fits
+
+pub ends_fit : (r : Run) → run.fits r → (ends (format_of r.version)).fits r.ends
+unfolding run body claim
+ends_fit r f = f.1.1.0.1.1.0
 
 short_behind : (ns : List ℕ) → fits_many (after comma (one number)) ns → Each IsShortNumber ns
 short_behind [] f = tt

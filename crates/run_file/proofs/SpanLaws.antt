@@ -1,5 +1,6 @@
 -- The spans count the words of the grammar, so each flaw's number is that of the token at which it stands.
-use Rattle.std.proofs.Common.{◌≡◌, ℕ, ◌+◌, ◌<◌, ◌≤◌, true, false, List, [], ◌∷◌, ◌++◌, length, refl, ◌∙◌, arith, length-append}
+use Rattle.std.proofs.Common.{◌≡◌, ℕ, ◌+◌, ◌<◌, ◌≤◌, true, false, List, [], ◌∷◌, ◌++◌, length, refl, ◌∙◌, arith}
+use Rattle.std.proofs.Common.{length-append}
 use Rattle.general_models.specs.declared.runs.picks.Pick.{Pick}
 use Rattle.general_models.specs.declared.runs.picks.Pick.TheVariants.{Cell as CellPicked, Jumps}
 use Rattle.cyc_grammar.specs.Syntax.{Class, one, words_many}
@@ -9,6 +10,9 @@ use Rattle.heap_reader.specs.Spans.{total, heap_span}
 use Rattle.heap_reader.proofs.SpanLaws.{listed_words, alone}
 use Rattle.heap_reader.specs.LineSpans.{line_span}
 use Rattle.heap_reader.proofs.LineSpanLaws.{lines_words}
+use Rattle.heap_reader.proofs.NumberedEnds.{ends_words_are}
+use Rattle.heap_reader.specs.EndSpans.{end_span}
+use Rattle.heap_syntax.specs.NumberedEnds.{End, ends}
 use Rattle.heap_syntax.specs.DefinitionTrees.{Heap, Definition}
 use Rattle.heap_syntax.specs.DefinitionGrammar.{terms, heap, definition, definitions}
 use Rattle.heap_reader.specs.DefinitionSpans.{term_span, definition_span}
@@ -31,17 +35,21 @@ use Rattle.run_file.specs.Flaws.{outcome_place}
 
 -- ---- the claim
 
-claim_words : (v : ModelVersion) (ds : List Definition) (ls : List Line) (n : ℕ) (h : Heap)
-    → (claim v).fits (ds, (ls, (n, h))) → length ((claim v).words (ds, (ls, (n, h))))
-    ≡ total definition_span ds + total (line_span variable_span) ls + (3 + heap_span term_span h)
+claim_words : (v : ModelVersion) (ds : List Definition) (ls : List Line) (es : List End) (n : ℕ) (h : Heap)
+    → (claim v).fits (ds, (ls, (es, (n, h)))) → length ((claim v).words (ds, (ls, (es, (n, h)))))
+    ≡ total definition_span ds + total (line_span variable_span) ls + total (end_span term_span) es
+    + (3 + heap_span term_span h)
 unfolding claim state_claimed definitions
-claim_words v ds ls n h fit =
+claim_words v ds ls es n h fit =
     let a = alone (λ w. true) definition definition_span definition_words ds fit.0 in
     let b = lines_words variable variable_span variable_words (format_of v) ls fit.1.0 in
-    let c = heap_words true h fit.1.1.1 in
+    let g = ends_words_are (format_of v) es fit.1.1.0 in
+    let c = heap_words true h fit.1.1.1.1 in
     let e1 = length-append ((heap (terms true)).words h) (semicolon.word tt ∷ []) in
-    let e2 = length-append ((lines (format_of v)).words ls) (state_claimed.words (n, h)) in
-    let e3 = length-append (words_many definition ds) ((lines (format_of v)).words ls ++ state_claimed.words (n, h)) in
+    let last = (ends (format_of v)).words es ++ state_claimed.words (n, h) in
+    let e0 = length-append ((ends (format_of v)).words es) (state_claimed.words (n, h)) in
+    let e2 = length-append ((lines (format_of v)).words ls) last in
+    let e3 = length-append (words_many definition ds) ((lines (format_of v)).words ls ++ last) in
     omega arith
 
 -- ---- the stack and the heap
@@ -91,24 +99,25 @@ unfolding picks picks1
 picks_words [] f = refl
 picks_words (p ∷ ps) f = listed_words some_pick comma semicolon pick pick_span pick_words (p ∷ ps) f.1
 
-course_words : (s : List ℕ) (cs : List Cell) (ps : List Pick) (o : Outcome) → course.fits ((s, cs), (ps, o))
-    → 3 + values_span s + cells_span cs + picks_span ps ≤ length (course.words ((s, cs), (ps, o)))
+course_words : (v : ModelVersion) (s : List ℕ) (cs : List Cell) (ps : List Pick) (o : Outcome)
+    → (course v).fits ((s, cs), (ps, o))
+    → 3 + values_span s + cells_span cs + picks_span ps ≤ length ((course v).words ((s, cs), (ps, o)))
 unfolding course
-course_words s cs ps o fit =
+course_words v s cs ps o fit =
     let a = state_words s cs fit.0 in
     let b = picks_words ps fit.1.0 in
-    let e3 = length-append (picks.words ps) (ending.words o) in
-    let e4 = length-append (state.words (s, cs)) (picks_word.word tt ∷ (picks.words ps ++ ending.words o)) in
+    let e3 = length-append (picks.words ps) ((ending v).words o) in
+    let e4 = length-append (state.words (s, cs)) (picks_word.word tt ∷ (picks.words ps ++ (ending v).words o)) in
     omega arith
 
 -- the words of a run file: the header, the claim, the stack, the heap, the picks, and more
 pub run_words : (r : Run) → run.fits r → outcome_place r < length (run.words r)
 unfolding run body
 run_words r fit =
-    let a = claim_words r.version r.definitions r.lines r.line r.precondition fit.1.1.0 in
-    let b = course_words r.stack r.cells r.picks r.outcome fit.1.1.1 in
-    let e1 = length-append (course.words (course_of r)) (semicolon.word tt ∷ []) in
+    let a = claim_words r.version r.definitions r.lines r.ends r.line r.precondition fit.1.1.0 in
+    let b = course_words r.version r.stack r.cells r.picks r.outcome fit.1.1.1 in
+    let e1 = length-append ((course r.version).words (course_of r)) (semicolon.word tt ∷ []) in
     let e2 = length-append ((claim r.version).words (claim_of r))
-    (course.words (course_of r) ++ semicolon.word tt ∷ []) in
+    ((course r.version).words (course_of r) ++ semicolon.word tt ∷ []) in
     let e3 = length-append (body.words r) (the_end.word tt ∷ []) in
     omega arith

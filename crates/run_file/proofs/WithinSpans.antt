@@ -78,7 +78,7 @@ run_before r =
     let picks = picks_flaw (allowed r) (first_pick r) r.picks in
     first_before (front_flaw r) (or_later (claim_flaw r) (or_later (state_given_flaw r) picks)) end
     (later (front_flaw r) (from_place r + 0) end (omega arith)
-    (file_before (front_of (format r) r.definitions r.lines)))
+    (file_before (front_of (format r) r.definitions r.lines r.ends)))
     (first_before (claim_flaw r) (or_later (state_given_flaw r) picks) end
     (later (claim_flaw r) (from_place r + 3 + heap_span term_span r.precondition) end (omega arith)
     (claim_before r))

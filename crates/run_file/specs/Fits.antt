@@ -1,6 +1,6 @@
 -- A tree fits the grammar of run files in one way.
-use Rattle.std.specs.Prelude.{ℕ, true, false, List, [], ◌∷◌}
-use Rattle.std.proofs.Common.{ap, lit<}
+use Rattle.std.specs.Prelude.{ℕ, Bool, true, false, List, [], ◌∷◌}
+use Rattle.std.proofs.Common.{ap, lit<, inl, inr}
 use Rattle.std.specs.Coded.{×_prop, Unit-prop, le_prop}
 use Rattle.general_models.specs.declared.runs.picks.Pick.TheVariants.{Cell as CellPicked, Jumps}
 use Rattle.cyc_grammar.specs.Syntax.{one}
@@ -8,9 +8,8 @@ use Rattle.cyc_grammar.specs.Classes.{number}
 use Rattle.heap_syntax.specs.Words.{comma, semicolon, closing}
 use Rattle.heap_syntax.specs.Grammar as shared
 use Rattle.heap_syntax.specs.Fits.{HasOneFit, listed-fit}
-use Rattle.heap_syntax.specs.DefinitionTrees.{Heap, Definition}
 use Rattle.heap_syntax.specs.DefinitionGrammar.{definitions}
-use Rattle.proof_syntax.specs.Trees.{Line, File, From, Done}
+use Rattle.proof_syntax.specs.Trees.{File, From, Done}
 use Rattle.proof_syntax.specs.Grammar as proofs
 use Rattle.proof_file.specs.Fits.{file-fit}
 use Rattle.model_file.specs.declared.version.ModelVersion.{ModelVersion}
@@ -19,32 +18,34 @@ use Rattle.model_file.specs.Versions.{format_of}
 use Rattle.model_file.specs.Trees.{Cell, Model}
 use Rattle.model_file.specs.Grammar as models
 use Rattle.model_file.specs.Fits.{model-fit}
-use Rattle.run_file.specs.declared.tree.Outcome.TheVariants.{Faults, Repeats, Grows}
-use Rattle.run_file.specs.Grammar.{state_claimed, claim, claim_of, pick, some_pick, picks1, picks, then_step, faulting}
-use Rattle.run_file.specs.Grammar.{repeating, value_pair, some_pair, value_pairs, growing, outcome, ending, course}
-use Rattle.run_file.specs.Grammar.{body, run}
+use Rattle.run_file.specs.declared.tree.Outcome.TheVariants.{Faults, Repeats, Grows, Breaks}
+use Rattle.run_file.specs.Grammar.{Claim, state_claimed, claim, claim_of, pick, some_pick, picks1, picks, then_step}
+use Rattle.run_file.specs.Grammar.{faulting, repeating, value_pair, some_pair, value_pairs, growing, breaking}
+use Rattle.run_file.specs.Grammar.{has_breaks, breaking_or_growing, outcome, ending, course, body, run}
 
 -- ---- the claim, as that of a proof file with one node
 
-abbrev pub file_of : ModelVersion → List Definition × (List Line × (ℕ × Heap)) → File
+abbrev pub file_of : ModelVersion → Claim → File
 file_of v c = record {
   version = format_of v;
   definitions = c.0;
   lines = c.1.0;
-  nodes = record { judgement = From c.1.1.0 c.1.1.1; reason = Done; premises = [] } ∷ [];
+  ends = c.1.1.0;
+  nodes = record { judgement = From c.1.1.1.0 c.1.1.1.1; reason = Done; premises = [] } ∷ [];
 }
 
-unfoldable pub in_file : (v : ModelVersion) (c : List Definition × (List Line × (ℕ × Heap))) → (claim v).fits c
+unfoldable pub in_file : (v : ModelVersion) (c : Claim) → (claim v).fits c
     → proofs.file.fits (file_of v c)
 unfolding claim state_claimed proofs.file proofs.body proofs.nodes proofs.more_nodes proofs.node proofs.judgement
     proofs.state proofs.reason proofs.parts proofs.premises
-in_file v c p = (tt, (tt, (p.0, (p.1.0, (lit< tt, ((tt, ((tt, p.1.1), ((tt, (tt, tt)), (tt, tt)))), tt))))))
+in_file v c p =
+    (tt, (tt, (p.0, (p.1.0, (p.1.1.0, (lit< tt, ((tt, ((tt, p.1.1.1), ((tt, (tt, tt)), (tt, tt)))), tt)))))))
 
-unfoldable of_file : (v : ModelVersion) (c : List Definition × (List Line × (ℕ × Heap)))
+unfoldable of_file : (v : ModelVersion) (c : Claim)
     → proofs.file.fits (file_of v c) → (claim v).fits c
 unfolding claim state_claimed proofs.file proofs.body proofs.nodes proofs.more_nodes proofs.node proofs.judgement
     proofs.state proofs.reason proofs.parts proofs.premises
-of_file v c f = (f.1.1.0, (f.1.1.1.0, f.1.1.1.1.1.0.1.0.1))
+of_file v c f = (f.1.1.0, (f.1.1.1.0, (f.1.1.1.1.0, f.1.1.1.1.1.1.0.1.0.1)))
 
 claim-fit : (v : ModelVersion) → HasOneFit (claim v)
 unfolding in_file of_file
@@ -90,11 +91,19 @@ unfolding growing then_step value_pairs
 growing-fit g = ×_prop Unit-prop (×_prop (×_prop le_prop le_prop)
     (listed-fit some_pair comma closing value_pair value_pair-fit g.renaming))
 
-outcome-fit : HasOneFit outcome
+breaking_or_growing-fit : (b : Bool) → HasOneFit (breaking_or_growing b)
+unfolding breaking_or_growing breaking
+breaking_or_growing-fit true (inl n) = le_prop
+breaking_or_growing-fit true (inr g) = growing-fit g
+breaking_or_growing-fit false (inl n) = λ p q. absurd p.0
+breaking_or_growing-fit false (inr g) = ×_prop Unit-prop (growing-fit g)
+
+outcome-fit : (v : ModelVersion) → HasOneFit (outcome v)
 unfolding outcome faulting repeating then_step
-outcome-fit (Faults l n) = ×_prop Unit-prop (×_prop le_prop le_prop)
-outcome-fit (Repeats m n) = ×_prop Unit-prop (×_prop le_prop le_prop)
-outcome-fit (Grows g) = ×_prop Unit-prop (growing-fit g)
+outcome-fit v (Faults l n) = ×_prop Unit-prop (×_prop le_prop le_prop)
+outcome-fit v (Repeats m n) = ×_prop Unit-prop (×_prop le_prop le_prop)
+outcome-fit v (Breaks n) = ×_prop Unit-prop (breaking_or_growing-fit (has_breaks v) (inl n))
+outcome-fit v (Grows g) = ×_prop Unit-prop (breaking_or_growing-fit (has_breaks v) (inr g))
 
 -- ---- run files
 
@@ -102,4 +111,4 @@ pub run-fit : HasOneFit run
 unfolding run body course ending
 run-fit r =
     ×_prop Unit-prop (×_prop Unit-prop (×_prop (claim-fit r.version (claim_of r))
-    (×_prop (state-fit (r.stack, r.cells)) (×_prop (picks-fit r.picks) (outcome-fit r.outcome)))))
+    (×_prop (state-fit (r.stack, r.cells)) (×_prop (picks-fit r.picks) (outcome-fit r.version r.outcome)))))

@@ -27,7 +27,7 @@ picks_flaw most k ps = listed_flaw (λ n. pick_flaw most) pick_span 0 k ps
 
 -- ---- what a run file may have
 
--- the version of proof files that has its definitions, its lines and its claim
+-- the version of proof files that has its definitions, its lines, its ends and its claim
 abbrev pub format : Run → Version
 format r = format_of r.version
 
@@ -38,7 +38,7 @@ allowed r = model_limits r.version
 
 -- the word "from", as the first node of a proof file
 abbrev pub from_place : Run → ℕ
-from_place r = first_node (front_of (format r) r.definitions r.lines)
+from_place r = first_node (front_of (format r) r.definitions r.lines r.ends)
 
 -- what stands behind the words "stack", "heap" and "picks"
 abbrev pub first_value : Run → ℕ
@@ -54,10 +54,11 @@ first_pick r = first_cell r + cells_span r.cells + 1
 abbrev pub outcome_place : Run → ℕ
 outcome_place r = first_pick r + picks_span r.picks
 
--- ---- run files: definitions, lines and the claim are as in a proof file, the stack and the heap as in a model file
+-- ---- run files: definitions, lines, ends and the claim are as in a proof file, the stack and the heap as in a model
+-- ---- file
 
 abbrev pub front_flaw : Run → Found
-front_flaw r = file_flaw (front_of (format r) r.definitions r.lines)
+front_flaw r = file_flaw (front_of (format r) r.definitions r.lines r.ends)
 
 abbrev pub claim_flaw : Run → Found
 claim_flaw r = state_flaw (allowed r) (headings r.definitions) (length r.lines) (from_place r) r.line r.precondition

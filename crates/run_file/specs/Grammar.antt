@@ -1,5 +1,5 @@
 -- The grammar of run files.
-use Rattle.std.specs.Prelude.{ℕ, true, false, List, ◌⊎◌, codes}
+use Rattle.std.specs.Prelude.{ℕ, Bool, true, false, List, [], ◌⊎◌, codes}
 use Rattle.std.proofs.Common.{inl, inr}
 use Rattle.cyc_grammar.specs.Syntax.{Syntax, Class, one, seq, alt, shaped, after, before, headed, is_one, or_empty}
 use Rattle.cyc_grammar.specs.Classes.{keyword, the_end, number}
@@ -12,14 +12,16 @@ use Rattle.heap_syntax.specs.Grammar.{Any, listed}
 use Rattle.heap_syntax.specs.DefinitionGrammar.{terms, heap, definitions}
 use Rattle.heap_syntax.specs.DefinitionTrees.{Heap, Definition}
 use Rattle.heap_syntax.specs.LineGrammar.{line_word}
+use Rattle.heap_syntax.specs.NumberedEnds.{End, ends}
 use Rattle.proof_syntax.specs.Grammar.{lines}
 use Rattle.proof_syntax.specs.Trees.{Line}
 use Rattle.model_file.specs.declared.version.ModelVersion.{ModelVersion}
+use Rattle.model_file.specs.declared.version.ModelVersion.TheVariants.{One, Three}
 use Rattle.model_file.specs.Versions.{format_of, model_version}
 use Rattle.model_file.specs.Grammar.{cell, state}
 use Rattle.model_file.specs.Trees.{Cell}
 use Rattle.run_file.specs.declared.tree.Outcome.{Outcome}
-use Rattle.run_file.specs.declared.tree.Outcome.TheVariants.{Faults, Repeats, Grows}
+use Rattle.run_file.specs.declared.tree.Outcome.TheVariants.{Faults, Repeats, Grows, Breaks}
 use Rattle.run_file.specs.Trees.{Run}
 
 -- ---- words
@@ -45,19 +47,26 @@ repeats_word = keyword (codes "repeats")
 abbrev pub grows_word : Class (Unit {0})
 grows_word = keyword (codes "grows")
 
+-- this word is not reserved
+abbrev pub breaks_word : Class (Unit {0})
+breaks_word = keyword (codes "breaks")
+
 abbrev pub step_word : Class (Unit {0})
 step_word = keyword (codes "step")
 
 abbrev pub with_word : Class (Unit {0})
 with_word = keyword (codes "with")
 
--- ---- the claim: { pred } { line } "from" number "given" uheap ";"; a line may be a free branch
+-- ---- the claim: { pred } { line } { end } "from" number "given" uheap ";"; a line may be a free branch
 
 unfoldable pub state_claimed : Syntax (ℕ × Heap)
 state_claimed = after from_word (seq (one number) (after given_word (before (heap (terms true)) semicolon)))
 
-unfoldable pub claim : ModelVersion → Syntax (List Definition × (List Line × (ℕ × Heap)))
-claim v = seq definitions (seq (lines (format_of v)) state_claimed)
+abbrev pub Claim : Type 0
+Claim = List Definition × (List Line × (List End × (ℕ × Heap)))
+
+unfoldable pub claim : ModelVersion → Syntax Claim
+claim v = seq definitions (seq (lines (format_of v)) (seq (ends (format_of v)) state_claimed))
 
 -- ---- pick = hcell | "jump" | "next"
 
@@ -105,7 +114,7 @@ unfoldable pub value_pairs : Syntax (List ValuePair)
 value_pairs = listed some_pair comma closing value_pair
 
 -- ---- outcome = "faults" "line" number "step" number | "repeats" "step" number "step" number
--- | "grows" "step" number "step" number "with" "(" pairs
+-- | "grows" "step" number "step" number "with" "(" pairs | "breaks" "step" number; the last where programs have ends
 
 -- number "step" number
 unfoldable pub then_step : Syntax (ℕ × ℕ)
@@ -127,40 +136,64 @@ unfoldable pub growing : Syntax Growth
 growing = shaped {A = (ℕ × ℕ) × List ValuePair} to_growth from_growth Any
     (after grows_word (after step_word (seq then_step (after with_word (after opening value_pairs)))))
 
+unfoldable pub breaking : Syntax ℕ
+breaking = after breaks_word (after step_word (one number))
+
+-- which versions tell that a run breaks an end
+abbrev pub has_breaks : ModelVersion → Bool
+has_breaks One = false
+has_breaks Three = true
+
+abbrev pub IsGrowing : ℕ ⊎ Growth → Type 0
+IsGrowing (inl n) = ⊥
+IsGrowing (inr g) = Unit {0}
+
+abbrev pub the_growth : ℕ ⊎ Growth → Growth
+the_growth (inl n) = record { first = 0; again = 0; renaming = [] }
+the_growth (inr g) = g
+
+-- breaking, where the version has it, or growing
+unfoldable pub breaking_or_growing : Bool → Syntax (ℕ ⊎ Growth)
+breaking_or_growing true = alt (is_one breaks_word) breaking growing
+breaking_or_growing false = shaped {A = Growth} inr the_growth IsGrowing growing
+
 abbrev pub Ends : Type 0
-Ends = (ℕ × ℕ) ⊎ ((ℕ × ℕ) ⊎ Growth)
+Ends = (ℕ × ℕ) ⊎ ((ℕ × ℕ) ⊎ (ℕ ⊎ Growth))
 
 abbrev pub to_outcome : Ends → Outcome
 to_outcome (inl p) = Faults p.0 p.1
 to_outcome (inr (inl p)) = Repeats p.0 p.1
-to_outcome (inr (inr g)) = Grows g
+to_outcome (inr (inr (inl n))) = Breaks n
+to_outcome (inr (inr (inr g))) = Grows g
 
 abbrev pub from_outcome : Outcome → Ends
 from_outcome (Faults l n) = inl (l, n)
 from_outcome (Repeats m n) = inr (inl (m, n))
-from_outcome (Grows g) = inr (inr g)
+from_outcome (Breaks n) = inr (inr (inl n))
+from_outcome (Grows g) = inr (inr (inr g))
 
-unfoldable pub outcome : Syntax Outcome
-outcome = shaped {A = Ends} to_outcome from_outcome Any
-    (alt (is_one faults_word) faulting (alt (is_one repeats_word) repeating growing))
+unfoldable pub outcome : ModelVersion → Syntax Outcome
+outcome v = shaped {A = Ends} to_outcome from_outcome Any
+    (alt (is_one faults_word) faulting
+    (alt (is_one repeats_word) repeating (breaking_or_growing (has_breaks v))))
 
 -- ---- run = "cyclist" "run" version ";" claim "stack" values "heap" cells "picks" picks outcome ";" "end" ";", and the
 -- end of the text; the versions are those of model files
 
 -- outcome ";" "end"
-unfoldable pub ending : Syntax Outcome
-ending = before (before outcome semicolon) last_word
+unfoldable pub ending : ModelVersion → Syntax Outcome
+ending v = before (before (outcome v) semicolon) last_word
 
 -- "stack" values "heap" cells "picks" picks outcome ";" "end"
-unfoldable pub course : Syntax ((List ℕ × List Cell) × (List Pick × Outcome))
-course = seq state (after picks_word (seq picks ending))
+unfoldable pub course : ModelVersion → Syntax ((List ℕ × List Cell) × (List Pick × Outcome))
+course v = seq state (after picks_word (seq picks (ending v)))
 
 abbrev pub Contents : Type 0
-Contents = (List Definition × (List Line × (ℕ × Heap))) × ((List ℕ × List Cell) × (List Pick × Outcome))
+Contents = Claim × ((List ℕ × List Cell) × (List Pick × Outcome))
 
 -- what stands after the version
 abbrev pub contents : ModelVersion → Syntax Contents
-contents v = after semicolon (seq (claim v) (before course semicolon))
+contents v = after semicolon (seq (claim v) (before (course v) semicolon))
 
 abbrev pub Parts : Type 0
 Parts = (v : ModelVersion) × Contents
@@ -170,16 +203,17 @@ to_run p = record {
   version = p.0;
   definitions = p.1.0.0;
   lines = p.1.0.1.0;
-  line = p.1.0.1.1.0;
-  precondition = p.1.0.1.1.1;
+  ends = p.1.0.1.1.0;
+  line = p.1.0.1.1.1.0;
+  precondition = p.1.0.1.1.1.1;
   stack = p.1.1.0.0;
   cells = p.1.1.0.1;
   picks = p.1.1.1.0;
   outcome = p.1.1.1.1;
 }
 
-abbrev pub claim_of : Run → List Definition × (List Line × (ℕ × Heap))
-claim_of r = (r.definitions, (r.lines, (r.line, r.precondition)))
+abbrev pub claim_of : Run → Claim
+claim_of r = (r.definitions, (r.lines, (r.ends, (r.line, r.precondition))))
 
 abbrev pub course_of : Run → (List ℕ × List Cell) × (List Pick × Outcome)
 course_of r = ((r.stack, r.cells), (r.picks, r.outcome))

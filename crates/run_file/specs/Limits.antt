@@ -9,8 +9,11 @@ use Rattle.general_models.specs.declared.runs.growth.Growth.{Growth}
 use Rattle.general_models.specs.declared.runs.growth.ValuePair.{ValuePair}
 use Rattle.general_models.specs.declared.runs.picks.Pick.{Pick}
 use Rattle.general_models.specs.declared.runs.picks.Pick.TheVariants.{Cell, Jumps}
+use Rattle.model_file.specs.declared.version.ModelVersion.{ModelVersion}
+use Rattle.model_file.specs.Versions.{model_limits}
 use Rattle.run_file.specs.declared.tree.Outcome.{Outcome}
-use Rattle.run_file.specs.declared.tree.Outcome.TheVariants.{Faults, Repeats, Grows}
+use Rattle.run_file.specs.declared.tree.Outcome.TheVariants.{Faults, Repeats, Grows, Breaks}
+use Rattle.run_file.specs.Grammar.{has_breaks}
 
 -- a number of at most nine digits
 abbrev pub is_short_number : ℕ → Bool
@@ -43,10 +46,11 @@ are_short_pairs ps = nat_lt 0 (length ps) && list_all is_short_pair ps
 abbrev pub is_short_growth : Growth → Bool
 is_short_growth g = is_short_number g.first && is_short_number g.again && are_short_pairs g.renaming
 
-abbrev pub is_short_outcome : Outcome → Bool
-is_short_outcome (Faults l n) = is_short_number l && is_short_number n
-is_short_outcome (Repeats m n) = is_short_number m && is_short_number n
-is_short_outcome (Grows g) = is_short_growth g
+abbrev pub is_short_outcome : ModelVersion → Outcome → Bool
+is_short_outcome v (Faults l n) = is_short_number l && is_short_number n
+is_short_outcome v (Repeats m n) = is_short_number m && is_short_number n
+is_short_outcome v (Grows g) = is_short_growth g
+is_short_outcome v (Breaks n) = has_breaks v && is_short_number n
 
 abbrev pub is_short_stack : List ℕ → Bool
 is_short_stack s = nat_le (length s) MOST_VALUES && are_short_numbers s
@@ -54,7 +58,8 @@ is_short_stack s = nat_le (length s) MOST_VALUES && are_short_numbers s
 abbrev pub is_short_heap : Limits → Cells → Bool
 is_short_heap most h = nat_le (length (entries h)) most.cells && list_all (is_short_entry most) (entries h)
 
--- a stack, a heap, picks and an outcome that a run file may have
-abbrev pub is_short_run : Limits → List ℕ → Cells → List Pick → Outcome → Bool
-is_short_run most s h ps o =
-    is_short_stack s && is_short_heap most h && list_all (is_short_pick most) ps && is_short_outcome o
+-- a stack, a heap, picks and an outcome that a run file of the version may have
+abbrev pub is_short_run : ModelVersion → List ℕ → Cells → List Pick → Outcome → Bool
+is_short_run v s h ps o =
+    is_short_stack s && is_short_heap (model_limits v) h && list_all (is_short_pick (model_limits v)) ps
+    && is_short_outcome v o

@@ -6,7 +6,7 @@ use Rattle.heap_reader.specs.Reading as reading
 use Rattle.heap_reader.specs.Values.{heap_value}
 use Rattle.heap_reader.specs.DefinitionFlaws.{headings}
 use Rattle.heap_reader.specs.DefinitionValues.{term_value, definition_value}
-use Rattle.heap_reader.specs.LineValues.{program_value}
+use Rattle.heap_reader.specs.EndValues.{ended_value}
 use Rattle.model_file.specs.Values.{cells_value}
 use Rattle.run_file.specs.Trees.{Run}
 use Rattle.run_file.specs.Grammar.{run}
@@ -18,7 +18,7 @@ pub record IsRunOf (tree : Run) (r : RunFile) : Type 0 where
   pub version : r.version ≡ tree.version
   pub most : r.defs.most ≡ allowed tree
   pub definitions : r.defs.list ≡ map (definition_value (headings tree.definitions)) tree.definitions
-  pub program : r.program ≡ program_value tree.lines
+  pub program : r.program ≡ ended_value term_value (headings tree.definitions) tree.lines tree.ends
   pub line : r.line ≡ tree.line
   pub precondition : r.precondition ≡ heap_value term_value (headings tree.definitions) tree.precondition
   pub stack : r.stack ≡ tree.stack

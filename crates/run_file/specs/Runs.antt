@@ -6,7 +6,7 @@ use Rattle.heap_formula.specs.Cells.{Cells}
 use Rattle.heap_syntax.specs.declared.version.Version.{Version}
 use Rattle.formula_reader.specs.declared.problem.Problem.{Problem}
 use Rattle.general_models.specs.declared.runs.picks.Pick.{Pick}
-use Rattle.model_file.specs.Versions.{model_limits, version_for}
+use Rattle.model_file.specs.Versions.{version_for}
 use Rattle.run_file.specs.declared.tree.Outcome.{Outcome}
 use Rattle.run_file.specs.declared.file.RunFile.{RunFile}
 use Rattle.run_file.specs.Limits.{is_short_run}
@@ -14,7 +14,7 @@ use Rattle.run_file.specs.Limits.{is_short_run}
 -- the goal is a claim of termination, and a run file for a problem of this version has room for the run
 abbrev pub HasFile : Version → Judgement → List ℕ → Cells → List Pick → Outcome → Type 0
 HasFile version (Entail a bs) s h ps o = ⊥
-HasFile version (Halting i a) s h ps o = is_short_run (model_limits (version_for version)) s h ps o ≡ true
+HasFile version (Halting i a) s h ps o = is_short_run (version_for version) s h ps o ≡ true
 
 -- a run file of the version for the problem's, with the problem's definitions, program and goal, and with this run
 pub record IsRunFor (p : Problem) (s : List ℕ) (h : Cells) (ps : List Pick) (o : Outcome) (r : RunFile) : Type 0 where

@@ -3,6 +3,7 @@ use Rattle.std.specs.Prelude.{ℕ, List, map}
 use Rattle.general_models.specs.declared.runs.picks.Pick.{Pick}
 use Rattle.general_models.specs.declared.runs.picks.Pick.TheVariants as picks
 use Rattle.heap_syntax.specs.DefinitionTrees.{Heap, Definition, heap_of, definition_of}
+use Rattle.heap_syntax.specs.NumberedEnds.{End, end_of}
 use Rattle.proof_syntax.specs.Trees.{Line}
 use Rattle.model_file.specs.declared.version.ModelVersion.{ModelVersion}
 use Rattle.model_file.specs.Trees.{Cell, cell_of}
@@ -15,6 +16,7 @@ pub record Run : Type 0 where
   pub version : ModelVersion
   pub definitions : List Definition
   pub lines : List Line
+  pub ends : List End
   pub line : ℕ
   pub precondition : Heap
   pub stack : List ℕ
@@ -33,6 +35,7 @@ run_of r = record {
   version = r.version;
   definitions = map definition_of r.definitions.items;
   lines = r.lines.items;
+  ends = map end_of r.ends.items;
   line = r.line;
   precondition = heap_of r.precondition;
   stack = r.stack.items;

@@ -7,7 +7,7 @@ use Rattle.heap_formula.specs.Cells.{Cells}
 use Rattle.heap_formula.specs.Definitions.{Definition as DefinitionValue}
 use Rattle.heap_formula.specs.Symbolic.{SymbolicHeap}
 use Rattle.general_models.specs.declared.runs.picks.Pick.{Pick}
-use Rattle.heap_reader.specs.Written.{heap_tree, definition_tree}
+use Rattle.heap_reader.specs.Written.{heap_tree, definition_tree, ends_tree}
 use Rattle.proof_file.specs.Written.{lines_tree}
 use Rattle.model_file.specs.declared.version.ModelVersion.{ModelVersion}
 use Rattle.model_file.specs.Written.{cells_tree}
@@ -23,6 +23,7 @@ tree_of version ds cs i a stack h ps o = record {
   version = version;
   definitions = map (definition_tree ds) ds;
   lines = lines_tree cs;
+  ends = ends_tree ds cs;
   line = i;
   precondition = heap_tree ds a;
   stack = stack;

@@ -7,11 +7,13 @@ ghost use Rattle.cyc_grammar.specs.Classes.{are_tokens};
 ghost use Rattle.cyc_grammar.specs.Faults.{Reads, IsRead};
 ghost use Rattle.cyc_grammar.specs.Giving.{Gives, words};
 ghost use Rattle.heap_syntax.specs.DefinitionTrees.{heap_of};
+ghost use Rattle.heap_syntax.specs.NumberedEnds.{end_of, ends};
 ghost use Rattle.proof_syntax.specs.Grammar.{lines};
 ghost use Rattle.model_file.specs.Versions.{format_of};
 ghost use Rattle.model_file.specs.Trees.{cell_of};
 ghost use Rattle.model_file.specs.Grammar.{state};
-ghost use Rattle.run_file.specs.Grammar.{state_claimed, then_step, growing, outcome, ending, body, run};
+ghost use Rattle.run_file.specs.Grammar.{state_claimed, then_step, growing, breaking, has_breaks as may_break, outcome};
+ghost use Rattle.run_file.specs.Grammar.{ending, body, run};
 ghost use Rattle.run_file.specs.Trees.{Run, run_of};
 
 use crate::items::{cells, picks, value_pairs, values};
@@ -19,7 +21,7 @@ use crate::tree::{Outcome, RunTree};
 use cyc_grammar::{Cursor, Refusal, read_fault};
 use cyc_lex::{ReadFault, Token, Tokens};
 use general_models::runs::{Growth, Renaming};
-use heap_syntax::definitions::{HeapTree, definitions, heap};
+use heap_syntax::definitions::{EndTree, HeapTree, definitions, heap};
 use model_file::syntax::CellTree;
 use model_file::{ModelVersion, read_model_version};
 use proof_syntax::{DollarVariables, LineTree};
@@ -34,6 +36,17 @@ fn lines(
     ensures { Gives (λ x. (x.items, cursor.new)) result ((lines (format_of version)).read cursor.old) }
 {
     heap_syntax::lines::lines(alloc, &DollarVariables, version.format(), cursor)
+}
+
+/// The ends of the program, of which there may be none.
+fn ends<'a>(
+    alloc: Global,
+    version: ModelVersion,
+    cursor: &mut Cursor<'_, 'a>,
+) -> Result<Vec<EndTree<'a>>, Refusal>
+    ensures { Gives (λ x. (map end_of x.items, cursor.new)) result ((ends (format_of version)).read cursor.old) }
+{
+    heap_syntax::definitions::ends(alloc, version.format(), cursor)
 }
 
 /// The line and the precondition that are claimed.
@@ -93,9 +106,33 @@ fn growing(alloc: Global, cursor: &mut Cursor<'_, '_>) -> Result<Growth, Refusal
     })
 }
 
-#[tactic(auto, unfolding(crate::specs::Grammar::outcome, crate::specs::Grammar::faulting, crate::specs::Grammar::repeating))]
-fn outcome(alloc: Global, cursor: &mut Cursor<'_, '_>) -> Result<Outcome, Refusal>
-    ensures { Gives (λ x. (x, cursor.new)) result (outcome.read cursor.old) }
+/// Whether files of the version tell that a run breaks an end.
+pub fn has_breaks(version: ModelVersion) -> bool
+    ensures { result ≡ may_break version }
+{
+    match version {
+        ModelVersion::One => false,
+        ModelVersion::Three => true,
+    }
+}
+
+/// The number of steps after which an end is broken.
+#[tactic(auto, unfolding(crate::specs::Grammar::breaking))]
+fn breaking(cursor: &mut Cursor<'_, '_>) -> Result<u32, Refusal>
+    ensures { Gives (λ x. (x, cursor.new)) result (breaking.read cursor.old) }
+{
+    cursor.keyword("breaks")?;
+    cursor.keyword("step")?;
+    cursor.number()
+}
+
+#[tactic(auto, unfolding(crate::specs::Grammar::outcome, crate::specs::Grammar::faulting, crate::specs::Grammar::repeating, crate::specs::Grammar::breaking_or_growing))]
+fn outcome(
+    alloc: Global,
+    version: ModelVersion,
+    cursor: &mut Cursor<'_, '_>,
+) -> Result<Outcome, Refusal>
+    ensures { Gives (λ x. (x, cursor.new)) result ((outcome version).read cursor.old) }
 {
     if cursor.is_keyword_next("faults") {
         cursor.keyword("faults")?;
@@ -109,16 +146,24 @@ fn outcome(alloc: Global, cursor: &mut Cursor<'_, '_>) -> Result<Outcome, Refusa
         let (first, again) = then_step(cursor)?;
         return Ok(Outcome::Repeats { first, again });
     }
+    if has_breaks(version) && cursor.is_keyword_next("breaks") {
+        let step = breaking(cursor)?;
+        return Ok(Outcome::Breaks { step });
+    }
     let growth = growing(alloc, cursor)?;
     Ok(Outcome::Grows(growth))
 }
 
 /// How the run ends, and the last statement's word.
 #[tactic(auto, unfolding(crate::specs::Grammar::ending))]
-fn ending(alloc: Global, cursor: &mut Cursor<'_, '_>) -> Result<Outcome, Refusal>
-    ensures { Gives (λ x. (x, cursor.new)) result (ending.read cursor.old) }
+fn ending(
+    alloc: Global,
+    version: ModelVersion,
+    cursor: &mut Cursor<'_, '_>,
+) -> Result<Outcome, Refusal>
+    ensures { Gives (λ x. (x, cursor.new)) result ((ending version).read cursor.old) }
 {
-    let outcome = outcome(alloc, cursor)?;
+    let outcome = outcome(alloc, version, cursor)?;
     cursor.symbol(";")?;
     cursor.keyword("end")?;
     Ok(outcome)
@@ -134,16 +179,18 @@ fn body<'a>(alloc: Global, cursor: &mut Cursor<'_, 'a>) -> Result<RunTree<'a>, R
     cursor.symbol(";")?;
     let definitions = definitions(alloc, cursor)?;
     let lines = lines(alloc, version, cursor)?;
+    let ends = ends(alloc, version, cursor)?;
     let (line, precondition) = state_claimed(alloc, cursor)?;
     let (stack, cells) = state(alloc, cursor)?;
     cursor.keyword("picks")?;
     let picks = picks(alloc, cursor)?;
-    let outcome = ending(alloc, cursor)?;
+    let outcome = ending(alloc, version, cursor)?;
     cursor.symbol(";")?;
     Ok(RunTree {
         version,
         definitions,
         lines,
+        ends,
         line,
         precondition,
         stack,

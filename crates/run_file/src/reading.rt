@@ -33,6 +33,7 @@ fn run_of_tree(alloc: Global, heads: &Heads<'_>, tree: &RunTree<'_>) -> Result<R
         tree.version.format(),
         &tree.definitions,
         &tree.lines,
+        &tree.ends,
     )?;
     let precondition = heap_value(alloc, heads, &Scope::Outside, &tree.precondition)?;
     let stack = Stack::from_vec(wide_numbers(alloc, &tree.stack)?);

@@ -3,7 +3,7 @@
 ghost use Rattle.std.specs.Prelude.{◌≡◌};
 
 use general_models::runs::Growth;
-use heap_syntax::definitions::{DefinitionTree, HeapTree};
+use heap_syntax::definitions::{DefinitionTree, EndTree, HeapTree};
 use model_file::ModelVersion;
 use model_file::syntax::CellTree;
 use proof_syntax::LineTree;
@@ -25,6 +25,8 @@ pub enum Outcome {
     Repeats { first: u32, again: u32 },
     /// The run comes back to a state like one before, with more.
     Grows(Growth),
+    /// After so many steps the run stops at an end of which its state satisfies no disjunct. In version 3 alone.
+    Breaks { step: u32 },
 }
 
 impl Clone for Outcome {
@@ -44,17 +46,19 @@ impl Clone for Outcome {
                 let growth = growth.clone()?;
                 Ok(Outcome::Grows(growth))
             }
+            Outcome::Breaks { step } => Ok(Outcome::Breaks { step: *step }),
         }
     }
 }
 
-/// A run file: its version, a claim of termination with its definitions and lines, the values of the stack, the cells
-/// of the heap and the picks in the order of the text, and how the run ends.
+/// A run file: its version, a claim of termination with its definitions, lines and ends, the values of the stack, the
+/// cells of the heap and the picks in the order of the text, and how the run ends.
 #[derive(Drop)]
 pub struct RunTree<'a> {
     pub version: ModelVersion,
     pub definitions: Vec<DefinitionTree<'a>>,
     pub lines: Vec<LineTree>,
+    pub ends: Vec<EndTree<'a>>,
     pub line: u32,
     pub precondition: HeapTree<'a>,
     pub stack: Vec<u32>,

@@ -16,6 +16,7 @@ use cyc_basics::memory::OutOfMemory;
 use general_models::runs::Pick;
 use goto_lang::Cells;
 use heap_reader::definitions::{definition_trees, heap_tree};
+use heap_reader::ends::end_trees;
 use model_file::syntax::CellTree;
 use std::alloc::Global;
 
@@ -98,6 +99,7 @@ pub fn run_tree<'a>(alloc: Global, run: &'a RunFile) -> Result<RunTree<'a>, OutO
     let defs = run.defs.as_slice();
     let definitions = definition_trees(alloc, defs)?;
     let lines = lines(alloc, &run.program)?;
+    let ends = end_trees(alloc, defs, &run.program)?;
     let precondition = heap_tree(alloc, defs, &run.precondition)?;
     let stack = narrow_numbers(alloc, run.stack.as_slice())?;
     let cells = cells(alloc, &run.heap)?;
@@ -107,6 +109,7 @@ pub fn run_tree<'a>(alloc: Global, run: &'a RunFile) -> Result<RunTree<'a>, OutO
         version: run.version,
         definitions,
         lines,
+        ends,
         line: run.line,
         precondition,
         stack,

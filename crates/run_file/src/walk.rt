@@ -20,13 +20,14 @@ use crate::tree::{PickTree, RunTree};
 use cyc_basics::limits::{Limits, MOST_VALUES};
 use cyc_lex::{IllFault, What};
 use heap_reader::definitions::{Scope, walk_definitions};
+use heap_reader::ends::walk_ends;
 use heap_reader::lines::walk_lines;
 use heap_reader::{Flaw, Heads, ill, over, walk_heap};
 use heap_syntax::definitions::HeapTree;
 use model_file::syntax::CellTree;
 use proof_file::ProgramVariables;
 
-/// The definitions and the lines, from the fourth token on.
+/// The definitions, the lines and the ends, from the fourth token on.
 fn front(heads: &Heads<'_>, tree: &RunTree<'_>) -> Result<usize, Flaw>
     requires known { heads.now ≡ headings (run_of tree.now).definitions }
     requires fits { from_place (run_of tree.now) < 2 ^ 64 }
@@ -34,7 +35,8 @@ fn front(heads: &Heads<'_>, tree: &RunTree<'_>) -> Result<usize, Flaw>
 {
     let most = tree.version.limits();
     let first_line = walk_definitions(heads, most, 4, &tree.definitions)?;
-    walk_lines(&ProgramVariables, most, first_line, &tree.lines)
+    let first_end = walk_lines(&ProgramVariables, most, first_line, &tree.lines)?;
+    walk_ends(heads, &Scope::End, most, &tree.lines, first_end, &tree.ends)
 }
 
 /// The word `from`, the number of a line, one of so many, and the precondition there.

@@ -5,6 +5,7 @@ ghost use Rattle.cyc_lex.specs.Spacing.{text_of};
 ghost use Rattle.cyc_lex.specs.Spelling.{Spells};
 ghost use Rattle.cyc_lex.specs.Writing.{write_all};
 ghost use Rattle.heap_syntax.specs.DefinitionTrees.{heap_of};
+ghost use Rattle.heap_syntax.specs.NumberedEnds.{end_of, ends};
 ghost use Rattle.proof_syntax.specs.Grammar.{lines};
 ghost use Rattle.model_file.specs.Versions.{format_of};
 ghost use Rattle.model_file.specs.Grammar.{state};
@@ -18,7 +19,7 @@ use crate::tree::{Outcome, RunTree};
 use cyc_basics::memory::OutOfMemory;
 use cyc_lex::WordWriter;
 use general_models::runs::Growth;
-use heap_syntax::definitions::HeapTree;
+use heap_syntax::definitions::{EndTree, HeapTree};
 use heap_syntax::writing::{write_definitions, write_heap};
 use model_file::syntax::CellTree;
 use model_file::{ModelVersion, write_model_version};
@@ -35,6 +36,19 @@ fn write_lines(
     ensures { OnOk result (writer.new ≡ write_all writer.old ((lines (format_of version)).words trees.now)) }
 {
     proof_syntax::writing::write_lines(&DollarVariables, version.format(), trees, writer)
+}
+
+/// Writes the ends of the program.
+fn write_ends(
+    version: ModelVersion,
+    trees: &[EndTree<'_>],
+    writer: &mut WordWriter,
+) -> Result<(), OutOfMemory>
+    requires { (ends (format_of version)).fits (map end_of trees.now) }
+    ensures { OnOk result
+        (writer.new ≡ write_all writer.old ((ends (format_of version)).words (map end_of trees.now))) }
+{
+    heap_syntax::writing::write_ends(version.format(), trees, writer)
 }
 
 #[tactic(auto, using(cyc_lex::proofs::WritingLaws::write_all_on), unfolding(crate::specs::Grammar::state_claimed, cyc_lex::specs::Writing::write_all))]
@@ -54,7 +68,7 @@ fn write_state_claimed(
     writer.symbol(";")
 }
 
-/// Writes the definitions, the lines, and what is claimed.
+/// Writes the definitions, the lines, the ends, and what is claimed.
 #[tactic(auto, using(cyc_lex::proofs::WritingLaws::write_all_on), unfolding(crate::specs::Grammar::claim))]
 fn write_claim(tree: &RunTree<'_>, writer: &mut WordWriter) -> Result<(), OutOfMemory>
     requires { (claim tree.now.version).fits (claim_of (run_of tree.now)) }
@@ -63,6 +77,7 @@ fn write_claim(tree: &RunTree<'_>, writer: &mut WordWriter) -> Result<(), OutOfM
 {
     write_definitions(&tree.definitions, writer)?;
     write_lines(tree.version, &tree.lines, writer)?;
+    write_ends(tree.version, &tree.ends, writer)?;
     write_state_claimed(tree.line, &tree.precondition, writer)
 }
 
@@ -104,12 +119,13 @@ fn write_growing(tree: &Growth, writer: &mut WordWriter) -> Result<(), OutOfMemo
     write_value_pairs(tree.renaming.as_slice(), writer)
 }
 
-#[tactic(auto, unfolding(crate::specs::Grammar::outcome, crate::specs::Grammar::faulting, crate::specs::Grammar::repeating, cyc_lex::specs::Writing::write_all))]
-fn write_outcome(tree: &Outcome, writer: &mut WordWriter) -> Result<(), OutOfMemory>
-    requires { outcome.fits tree.now }
-    ensures { OnOk result (writer.new ≡ write_all writer.old (outcome.words tree.now)) }
+#[tactic(auto, unfolding(crate::specs::Grammar::outcome, crate::specs::Grammar::faulting, crate::specs::Grammar::repeating, crate::specs::Grammar::breaking, crate::specs::Grammar::breaking_or_growing, cyc_lex::specs::Writing::write_all))]
+fn write_outcome(tree: &RunTree<'_>, writer: &mut WordWriter) -> Result<(), OutOfMemory>
+    requires { (outcome tree.now.version).fits tree.now.outcome }
+    ensures { OnOk result (writer.new
+        ≡ write_all writer.old ((outcome tree.now.version).words tree.now.outcome)) }
 {
-    match tree {
+    match &tree.outcome {
         Outcome::Faults { line, step } => {
             writer.name("faults")?;
             writer.name("line")?;
@@ -121,13 +137,19 @@ fn write_outcome(tree: &Outcome, writer: &mut WordWriter) -> Result<(), OutOfMem
             write_then_step(*first, *again, writer)
         }
         Outcome::Grows(growth) => write_growing(growth, writer),
+        Outcome::Breaks { step } => {
+            writer.name("breaks")?;
+            writer.name("step")?;
+            writer.number(*step)
+        }
     }
 }
 
 #[tactic(auto, using(cyc_lex::proofs::WritingLaws::write_all_on), unfolding(crate::specs::Grammar::ending, cyc_lex::specs::Writing::write_all))]
-fn write_ending(tree: &Outcome, writer: &mut WordWriter) -> Result<(), OutOfMemory>
-    requires { ending.fits tree.now }
-    ensures { OnOk result (writer.new ≡ write_all writer.old (ending.words tree.now)) }
+fn write_ending(tree: &RunTree<'_>, writer: &mut WordWriter) -> Result<(), OutOfMemory>
+    requires { (ending tree.now.version).fits tree.now.outcome }
+    ensures { OnOk result (writer.new
+        ≡ write_all writer.old ((ending tree.now.version).words tree.now.outcome)) }
 {
     write_outcome(tree, writer)?;
     writer.symbol(";")?;
@@ -137,13 +159,14 @@ fn write_ending(tree: &Outcome, writer: &mut WordWriter) -> Result<(), OutOfMemo
 /// Writes the stack, the heap, the picks and how the run ends.
 #[tactic(auto, using(cyc_lex::proofs::WritingLaws::write_all_on), unfolding(crate::specs::Grammar::course, cyc_lex::specs::Writing::write_all))]
 fn write_course(tree: &RunTree<'_>, writer: &mut WordWriter) -> Result<(), OutOfMemory>
-    requires { course.fits (course_of (run_of tree.now)) }
-    ensures { OnOk result (writer.new ≡ write_all writer.old (course.words (course_of (run_of tree.now)))) }
+    requires { (course tree.now.version).fits (course_of (run_of tree.now)) }
+    ensures { OnOk result (writer.new
+        ≡ write_all writer.old ((course tree.now.version).words (course_of (run_of tree.now)))) }
 {
     write_state(&tree.stack, &tree.cells, writer)?;
     writer.name("picks")?;
     write_picks(&tree.picks, writer)?;
-    write_ending(&tree.outcome, writer)
+    write_ending(tree, writer)
 }
 
 #[tactic(auto, using(cyc_lex::proofs::WritingLaws::write_all_on), unfolding(crate::specs::Grammar::body, cyc_lex::specs::Writing::write_all))]

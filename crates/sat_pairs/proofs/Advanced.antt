@@ -16,22 +16,21 @@ use Rattle.pair_family.specs.Tables.{Table}
 use Rattle.pair_family.specs.Within.{IsWithin}
 use Rattle.heap_formula.specs.Words.{OneOf}
 use Rattle.cyc_basics.specs.Words.{IsMember}
-use Rattle.sat_pairs.specs.declared.parts.Share.TheVariants.{All}
 use Rattle.sat_pairs.specs.declared.stages.Stage.{Stage}
 use Rattle.sat_pairs.specs.CaseStates.{PassesFrom}
 use Rattle.sat_pairs.specs.Growth.{IsGrown}
 use Rattle.sat_pairs.specs.Numbers.{cell_pair_alone, kept_numbers, places_in}
-use Rattle.sat_pairs.specs.Parts.{atom_pairs, atoms_of, lists_of}
+use Rattle.sat_pairs.specs.Atoms.{atom_pairs, lists_of}
 use Rattle.sat_pairs.specs.Stages.{AreFresh, AreStages, GivesAt, IsAlike, IsAt, IsFresh, IsFull, IsStage, IsTaken}
-use Rattle.sat_pairs.specs.Stages.{outcome, pairs_at, parts_of}
-use Rattle.sat_pairs.proofs.PartLists.{part_cell}
+use Rattle.sat_pairs.specs.Stages.{atoms_of, outcome, pairs_at}
+use Rattle.sat_pairs.proofs.AtomLists.{atom_cell}
 use Rattle.sat_pairs.proofs.Reached.{passes_here, passes_later, passes_none, passes_nowhere}
 use Rattle.sat_pairs.proofs.Staged.{stage_many, stage_steps}
 use Rattle.sat_pairs.proofs.Steps.{Stepped, HasCellPair, of_list, fold_within, leads, many_led}
 
 -- ---- one stage, and those behind it
 
-pub alike_at : (k : ℕ) (rest : List Spatial) (s t : Stage) → IsAlike s t → IsAt k rest s → IsAt k rest t
+alike_at : (k : ℕ) (rest : List Spatial) (s t : Stage) → IsAlike s t → IsAt k rest s → IsAt k rest t
 alike_at k rest s t a at = record {
   numbers = subst (λ x. t.numbers.items ≡ kept_numbers k (x ∷ rest)) (sym a.atom) (a.numbers ∙ at.numbers);
   places = subst (λ x. t.places.items ≡ places_in (kept_numbers k (x ∷ rest)) (spoken x)) (sym a.atom)
@@ -67,7 +66,7 @@ module _ (most k : ℕ) (table : Table) (cell : List BasePair) where
     pairs = pairs_at table cell s
 
     has : HasCellPair s.atom pairs
-    has = part_cell table cell s.atom All cells
+    has = atom_cell table cell s.atom cells
 
     pub stage_passes : (most' : ℕ) (lists : List (List BasePair)) → HasMore most' (GivesAt s before pairs)
         → PassesFrom most' (families_of (pairs ∷ lists)) (frames_of k (s.atom ∷ rest)) before (s.atom ∷ rest)
@@ -101,28 +100,28 @@ module _ (most k : ℕ) (table : Table) (cell : List BasePair) where
   -- ---- stages that have taken in all
 
   pub stages_states : cell ≡ cell_pair_alone → (before : List BasePair) (ss : List Stage)
-      → Each (IsWithin (suc (length (kept_terms k (atoms_of (parts_of ss)))))) before
+      → Each (IsWithin (suc (length (kept_terms k (atoms_of ss))))) before
       → AreStages most table cell k before (length before) ss → IsFull table cell ss
-      → AreStates (families_of (lists_of table cell (parts_of ss))) (frames_of k (atoms_of (parts_of ss))) before
-      (atoms_of (parts_of ss)) (outcome before ss)
+      → AreStates (families_of (lists_of table cell (atoms_of ss))) (frames_of k (atoms_of ss)) before
+      (atoms_of ss) (outcome before ss)
   stages_states cells before [] w a f = λ d. (λ m. m, λ m. m)
   stages_states cells before (s ∷ ss) w a f =
-      let rest = atoms_of (parts_of ss) in (
+      let rest = atoms_of ss in (
         s.states.keys,
         stage_leads cells before s rest a.0.at w a.0.taken f.0,
         stages_states cells s.states.keys ss (stage_within cells before s rest a.0.at w a.0.taken f.0) a.1 f.1,
       )
 
   pub stages_few : cell ≡ cell_pair_alone → (before : List BasePair) (ss : List Stage)
-      → Each (IsWithin (suc (length (kept_terms k (atoms_of (parts_of ss)))))) before → sizes before ≤ most
+      → Each (IsWithin (suc (length (kept_terms k (atoms_of ss))))) before → sizes before ≤ most
       → AreStages most table cell k before (length before) ss → IsFull table cell ss
-      → ¬ PassesFrom most (families_of (lists_of table cell (parts_of ss))) (frames_of k (atoms_of (parts_of ss)))
-      before (atoms_of (parts_of ss))
+      → ¬ PassesFrom most (families_of (lists_of table cell (atoms_of ss))) (frames_of k (atoms_of ss))
+      before (atoms_of ss)
   stages_few cells before [] w few a f = passes_none most (families_of []) (frames_of k []) before few
   stages_few cells before (s ∷ ss) w few a f =
-      let rest = atoms_of (parts_of ss) in
+      let rest = atoms_of ss in
       let r = a.0.room.room in
-      stage_nowhere cells before s rest a.0.at w a.0.taken f.0 most (lists_of table cell (parts_of ss)) few
+      stage_nowhere cells before s rest a.0.at w a.0.taken f.0 most (lists_of table cell (atoms_of ss)) few
       (stages_few cells s.states.keys ss (stage_within cells before s rest a.0.at w a.0.taken f.0) (omega arith)
       a.1 f.1)
 
@@ -130,21 +129,21 @@ module _ (most k : ℕ) (table : Table) (cell : List BasePair) where
 
 module _ (most k : ℕ) (table : Table) (cell before : List BasePair) (done : ℕ) (all : List Stage) (s : Stage)
     (rest : List Stage) (e : all ≡ s ∷ rest) (cells : cell ≡ cell_pair_alone)
-    (within : Each (IsWithin (suc (length (kept_terms k (atoms_of (parts_of all)))))) before)
+    (within : Each (IsWithin (suc (length (kept_terms k (atoms_of all))))) before)
     (are : AreStages most table cell k before done all) (pairs : List BasePair)
-    (pairs_are : pairs ≡ atom_pairs table cell s.atom All) where
+    (pairs_are : pairs ≡ atom_pairs table cell s.atom) where
   abbrev others : List Spatial
-  others = atoms_of (parts_of rest)
+  others = atoms_of rest
 
   both_are : AreStages most table cell k before done (s ∷ rest)
   both_are = subst (AreStages most table cell k before done) e are
 
   both_within : Each (IsWithin (suc (length (kept_terms k (s.atom ∷ others))))) before
-  both_within = subst (λ z. Each (IsWithin (suc (length (kept_terms k (atoms_of (parts_of z)))))) before) e within
+  both_within = subst (λ z. Each (IsWithin (suc (length (kept_terms k (atoms_of z))))) before) e within
 
   abbrev Passes' : List Stage → Type 0
-  Passes' z = PassesFrom most (families_of (lists_of table cell (parts_of z))) (frames_of k (atoms_of (parts_of z)))
-      before (atoms_of (parts_of z))
+  Passes' z = PassesFrom most (families_of (lists_of table cell (atoms_of z))) (frames_of k (atoms_of z))
+      before (atoms_of z)
 
   -- the states of the first stage are too many
   pub first_passes : HasMore (s.room + sizes s.states.keys) (GivesAt s before pairs) → Passes' all
@@ -152,12 +151,12 @@ module _ (most k : ℕ) (table : Table) (cell before : List BasePair) (done : �
       let h' = subst (λ n. HasMore n (GivesAt s before pairs)) both_are.0.room.room h in
       let h'' = subst (λ z. HasMore most (GivesAt s before z)) pairs_are h' in
       subst Passes' (sym e) (stage_passes most k table cell cells before s others both_are.0.at both_within most
-      (lists_of table cell (parts_of rest)) h'')
+      (lists_of table cell (atoms_of rest)) h'')
 
   module _ (t : Stage) (same : IsAlike s t) (longer : Extends s.states.keys t.states.keys)
       (taken : IsTaken pairs before (length before) t) (full : t.taken ≡ length pairs) where
     t_pairs : pairs ≡ pairs_at table cell t
-    t_pairs = pairs_are ∙ ap (λ x. atom_pairs table cell x All) (sym same.atom)
+    t_pairs = pairs_are ∙ ap (λ x. atom_pairs table cell x) (sym same.atom)
 
     t_at : IsAt k others t
     t_at = alike_at k others s t same both_are.0.at
@@ -181,13 +180,13 @@ module _ (most k : ℕ) (table : Table) (cell before : List BasePair) (done : �
     pub next_stages : AreStages most table cell k t.states.keys (length s.states.keys) rest
     next_stages = stages_longer most k table cell s.states.keys t.states.keys rest longer both_are.1
 
-    pub next_passes : PassesFrom most (families_of (lists_of table cell (parts_of rest))) (frames_of k others)
+    pub next_passes : PassesFrom most (families_of (lists_of table cell (atoms_of rest))) (frames_of k others)
         t.states.keys others → Passes' all
     next_passes p =
         let q = stage_later most k table cell cells before t others t_at t_within t_taken t_full most
-        (lists_of table cell (parts_of rest)) p in
+        (lists_of table cell (atoms_of rest)) p in
         subst Passes' (sym e) (subst (λ x. PassesFrom most
-        (families_of (atom_pairs table cell x All ∷ lists_of table cell (parts_of rest))) (frames_of k (x ∷ others))
+        (families_of (atom_pairs table cell x ∷ lists_of table cell (atoms_of rest))) (frames_of k (x ∷ others))
         before (x ∷ others)) same.atom q)
 
 -- ---- stages that have taken in nothing
@@ -213,8 +212,8 @@ fresh_stage most k x rest pairs before s f = record {
 }
 
 pub fresh_atoms : (most k : ℕ) (xs : List Spatial) (ss : List Stage) → AreFresh most k xs ss
-    → atoms_of (parts_of ss) ≡ xs
-fresh_atoms most k [] ss f = ap (λ z. atoms_of (parts_of z)) f
+    → atoms_of ss ≡ xs
+fresh_atoms most k [] ss f = ap (λ z. atoms_of z) f
 fresh_atoms most k (x ∷ xs) [] f = absurd f
 fresh_atoms most k (x ∷ xs) (s ∷ ss) f = λ i. f.0.atom i ∷ fresh_atoms most k xs ss f.1 i
 
@@ -224,7 +223,7 @@ fresh_stages most k table cell before [] ss f = subst (AreStages most table cell
 fresh_stages most k table cell before (x ∷ xs) [] f = absurd f
 fresh_stages most k table cell before (x ∷ xs) (s ∷ ss) f =
     let rest = subst (λ z. IsFresh most k x z s) (sym (fresh_atoms most k xs ss f.1)) f.0 in (
-      fresh_stage most k x (atoms_of (parts_of ss)) (pairs_at table cell s) before s rest,
+      fresh_stage most k x (atoms_of ss) (pairs_at table cell s) before s rest,
       subst (λ n. AreStages most table cell k s.states.keys n ss) (sym (ap length f.0.states))
           (fresh_stages most k table cell s.states.keys xs ss f.1),
     )
@@ -240,7 +239,7 @@ taken_more old new before done s rest e t = record {
 }
 
 pairs_more : (A B : Table) (cell : List BasePair) (x : Spatial) → IsGrown A B
-    → (rest : List BasePair) × (atom_pairs B cell x All ≡ atom_pairs A cell x All ++ rest)
+    → (rest : List BasePair) × (atom_pairs B cell x ≡ atom_pairs A cell x ++ rest)
 pairs_more A B cell (Cell t ts) g = ([], sym (append-nil cell))
 pairs_more A B cell (Pred p ts) g = g.extends p
 
@@ -256,17 +255,3 @@ stages_grown most k A B cell before done (s ∷ ss) g a =
       },
       stages_grown most k A B cell s.states.keys (length s.states.keys) ss g a.1,
     )
-
--- ---- all is forgotten
-
-pub forgotten_stage : (most k : ℕ) (rest : List Spatial) (pairs before now : List BasePair) (done : ℕ) (s t : Stage)
-    → IsStage most k rest pairs before done s → IsAlike s t → t.taken ≡ 0 → t.states.keys ≡ [] → t.room ≡ most
-    → IsStage most k rest pairs now 0 t
-forgotten_stage most k rest pairs before now done s t is same taken states room = record {
-  at = alike_at k rest s t same is.at;
-  taken = taken_none pairs now t taken states;
-  room = subst (λ z. HasRoom most z t.room) (sym states) (record {
-    distinct = tt;
-    room = let z : sizes [] ≡ 0 = refl in omega arith;
-  });
-}

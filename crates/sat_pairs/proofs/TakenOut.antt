@@ -1,8 +1,8 @@
--- Entries of a list taken out one after the other.
+-- An entry of a list that is read, or taken out.
 use Rattle.std.proofs.Common.{◌≡◌, ℕ, zero, suc, ◌+◌, ◌<◌, List, [], ◌∷◌, ◌++◌, length, get_or, take, drop, arith, sym}
-use Rattle.std.proofs.Common.{ap, subst, append_assoc, ◌∙◌}
-use Rattle.std.proofs.lemmas.List.{append-nil}
-use Rattle.pair_family.specs.Reordering.{IsTakenOut, Reorders}
+use Rattle.std.proofs.Common.{ap, ◌∙◌}
+use Rattle.std.specs.Prelude.{slice_index_or}
+use Rattle.pair_family.specs.Reordering.{IsTakenOut}
 
 split_at : {X : Type 0} (xs : List X) (i : ℕ) (x : X) → i < length xs → x ≡ get_or xs i x
     → xs ≡ take i xs ++ (x ∷ drop (suc i) xs)
@@ -16,15 +16,9 @@ taken_out xs new i x l e f =
     let s : i + 1 ≡ suc i = omega arith in
     (take i xs, drop (suc i) xs, split_at xs i x l e, f ∙ ap (λ z. take i xs ++ drop z xs) s)
 
--- an invariant: what is left, in whatever order, makes the whole
-abbrev pub Leaves : {X : Type 0} → List X → List X → List X → Type 0
-Leaves {X} out left all = (rest : List X) → Reorders rest left → Reorders (out ++ rest) all
-
-pub leaves_more : {X : Type 0} (out new left after all : List X) (x : X) → Leaves out left all → IsTakenOut left after x
-    → new ≡ out ++ (x ∷ []) → Leaves new after all
-leaves_more out new left after all x h t e rest r =
-    subst (λ z. Reorders z all) (sym (ap (λ z. z ++ rest) e ∙ append_assoc out (x ∷ []) rest))
-    (h (x ∷ rest) (after, t, r))
-
-pub leaves_none : {X : Type 0} (out left all : List X) → Leaves out left all → left ≡ [] → Reorders out all
-leaves_none out left all h e = subst (λ z. Reorders z all) (append-nil out) (h [] e)
+-- an entry that was read
+pub read_at : {X : Type 0} (xs : List X) (i : ℕ) (x d : X) → i < length xs → get_or xs i x ≡ x
+    → x ≡ slice_index_or xs i d
+read_at [] i x d l e = absurd (omega arith)
+read_at (y ∷ xs) zero x d l e = sym e
+read_at (y ∷ xs) (suc i) x d l e = read_at xs i x d (omega arith) e

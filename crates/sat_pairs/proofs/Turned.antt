@@ -28,21 +28,19 @@ use Rattle.pair_family.proofs.Rounds.{gives_within}
 use Rattle.pair_family.proofs.Lists.{each_at, in_append, in_left, in_right, map_in}
 use Rattle.pair_family.proofs.Reordered.{reordered_give}
 use Rattle.pair_family.proofs.StatesFacts.{one_out, states_folded}
-use Rattle.sat_pairs.specs.declared.parts.Part.{Part}
-use Rattle.sat_pairs.specs.declared.parts.Share.TheVariants.{All}
 use Rattle.sat_pairs.specs.declared.stages.Stage.{Stage}
 use Rattle.sat_pairs.specs.declared.turns.Turn.{Turn}
 use Rattle.sat_pairs.specs.CaseStates.{PassesFrom, Passes}
 use Rattle.sat_pairs.specs.Growth.{HasAllGiven, HasPairs, IsGrown}
 use Rattle.sat_pairs.specs.Numbers.{cell_pair_alone}
-use Rattle.sat_pairs.specs.Parts.{AreWhole, HasSome, PartsGive, atoms_of, lists_of, part_pairs}
-use Rattle.sat_pairs.specs.Stages.{AreFresh, AreStages, IsFull, outcome, parts_of}
+use Rattle.sat_pairs.specs.Atoms.{AtomsGive, HasSome, atom_pairs, lists_of}
+use Rattle.sat_pairs.specs.Stages.{AreFresh, AreStages, IsFull, atoms_of, outcome}
 use Rattle.sat_pairs.specs.Turns.{AreOrdered, HasTurns, IsDone, IsFirst, IsTurn, IsTurnOf, case_at, case_of, found_by}
 use Rattle.sat_pairs.specs.Turns.{heap_of, width_of}
 use Rattle.sat_pairs.proofs.Advanced.{fresh_atoms, fresh_stages, stages_few, stages_grown, stages_states}
 use Rattle.sat_pairs.proofs.Joins.{reordered_each}
-use Rattle.sat_pairs.proofs.LargeParts.{large_passes, none_given, none_large, passes_large}
-use Rattle.sat_pairs.proofs.PartLists.{whole_give}
+use Rattle.sat_pairs.proofs.LargeAtoms.{large_passes, none_given, none_large, passes_large}
+use Rattle.sat_pairs.proofs.AtomLists.{atoms_give}
 use Rattle.sat_pairs.proofs.Reached.{passes_first}
 use Rattle.sat_pairs.proofs.Staged.{take_whole}
 use Rattle.sat_pairs.proofs.Taken.{at_member, below_or}
@@ -73,33 +71,18 @@ member_at (y ∷ xs) x d (inr m) = let r = member_at xs x d m in let l = r.1 in 
 
 -- ---- a case before its first turn
 
-parts_are : (ss : List Stage) (xs : List Part) → Each (λ x. x.share ≡ All) xs → atoms_of (parts_of ss) ≡ atoms_of xs
-    → parts_of ss ≡ xs
-parts_are [] [] a e = refl
-parts_are [] (x ∷ xs) a e = absurd (let f : [] ≡ x.atom ∷ atoms_of xs = e in cc)
-parts_are (s ∷ ss) [] a e = absurd (let f : s.atom ∷ atoms_of (parts_of ss) ≡ [] = e in cc)
-parts_are (s ∷ ss) (x ∷ xs) a e =
-    let f : s.atom ∷ atoms_of (parts_of ss) ≡ x.atom ∷ atoms_of xs = e in
-    let here : s.atom ≡ x.atom = cc in
-    let more : atoms_of (parts_of ss) ≡ atoms_of xs = cc in
-    let rest = parts_are ss xs a.1 more in
-    λ i. record { atom = here i; share = sym a.0 i } ∷ rest i
-
-pub new_turn : (k most : ℕ) (a : SymbolicHeap) (table : Table) (cell : List BasePair) (parts ordered : List Part)
-    (t : Turn) → AreWhole a.spatial parts → Reorders ordered parts → atoms_of ordered ≡ join_order k (atoms_of parts)
-    → IsFirst k (atoms_of ordered) a.pure t.first.items → AreFresh most k (atoms_of ordered) t.stages.items
-    → t.begun ≡ 0 → t.put ≡ 0 → IsTurnOf k a most table cell t
-new_turn k most a table cell parts ordered t whole all order first fresh begun put =
-    let atoms = fresh_atoms most k (atoms_of ordered) t.stages.items fresh in
-    let same = parts_are t.stages.items ordered (reordered_each (λ x. x.share ≡ All) ordered parts all whole.shares_are)
-    atoms in
+pub new_turn : (k most : ℕ) (a : SymbolicHeap) (table : Table) (cell : List BasePair) (ordered : List Spatial)
+    (t : Turn) → Reorders ordered a.spatial → ordered ≡ join_order k a.spatial
+    → IsFirst k ordered a.pure t.first.items → AreFresh most k ordered t.stages.items → t.begun ≡ 0 → t.put ≡ 0
+    → IsTurnOf k a most table cell t
+new_turn k most a table cell ordered t all order first fresh begun put =
+    let same = fresh_atoms most k ordered t.stages.items fresh in
     record {
-      ordered = subst (AreOrdered k a.spatial) (sym same)
-          (record { parts = parts; whole = whole; all = all; order = order });
-      first = subst (λ z. IsFirst k z a.pure t.first.items) (sym atoms) first;
+      ordered = subst (AreOrdered k a.spatial) (sym same) (record { all = all; order = order });
+      first = subst (λ z. IsFirst k z a.pure t.first.items) (sym same) first;
       begun = omega arith;
       stages = subst (λ n. AreStages most table cell k t.first.items n t.stages.items) (sym begun)
-          (fresh_stages most k table cell t.first.items (atoms_of ordered) t.stages.items fresh);
+          (fresh_stages most k table cell t.first.items ordered t.stages.items fresh);
       put = omega arith;
       given = λ b m. absurd (subst (λ n. IsMember b (take n (found_by t))) put m);
     }
@@ -114,73 +97,68 @@ first_within k xs ps (s ∷ ss) is = (
   subst (Each (IsWithin (suc (length (kept_terms k xs))))) (sym is.2) tt,
 )
 
-module _ (k : ℕ) (a : SymbolicHeap) (table : Table) (cell : List BasePair) (xs : List Part)
+module _ (k : ℕ) (a : SymbolicHeap) (table : Table) (cell : List BasePair) (xs : List Spatial)
     (ordered : AreOrdered k a.spatial xs) where
   abbrev lists : List (List BasePair)
   lists = lists_of table cell xs
 
-  abbrev atoms : List Spatial
-  atoms = atoms_of xs
+  atoms_case : (d : BasePair) → AtomsGive table cell k a.pure d xs ↔ CaseGives (in_table table) k d a
+  atoms_case d =
+      let same = reordered_give (atom_pairs table cell) k a.pure d xs a.spatial ordered.all in
+      let give = atoms_give table cell k a.pure d a.spatial in
+      (λ g. give.0 (same.0 g), λ c. same.1 (give.1 c))
 
-  parts_case : (d : BasePair) → PartsGive table cell k a.pure d xs ↔ CaseGives (in_table table) k d a
-  parts_case d =
-      let same = reordered_give (λ (x : Part). x.atom) (part_pairs table cell) k a.pure d xs ordered.parts
-      ordered.all in
-      let whole = whole_give table cell k a.pure d a.spatial ordered.parts ordered.whole in
-      (λ g. whole.0 (same.0 g), λ c. same.1 (whole.1 c))
-
-  pub given_out : (first out : List BasePair) → IsFirst k atoms a.pure first
-      → AreStates (families_of lists) (frames_of k atoms) first atoms out → (d : BasePair) → IsMember d out
+  pub given_out : (first out : List BasePair) → IsFirst k xs a.pure first
+      → AreStates (families_of lists) (frames_of k xs) first xs out → (d : BasePair) → IsMember d out
       ↔ CaseGives (in_table table) k d a
   given_out [] out is are d = (
-    λ m. absurd ((states_folded (families_of lists) (frames_of k atoms) [] atoms out are d m).1),
-    λ c. absurd (case_none lists k (record { pure = a.pure; spatial = atoms }) is d ((parts_case d).1 c)),
+    λ m. absurd ((states_folded (families_of lists) (frames_of k xs) [] xs out are d m).1),
+    λ c. absurd (case_none lists k (record { pure = a.pure; spatial = xs }) is d ((atoms_case d).1 c)),
   )
   given_out (s ∷ ss) out is are d =
-      let are' = subst (λ z. AreStates (families_of lists) (frames_of k atoms) (s ∷ z) atoms out) is.2 are in
-      let g = case_states lists k (record { pure = a.pure; spatial = atoms }) s out (is.0, is.1) are' d in
-      (λ m. (parts_case d).0 (g.0 m), λ c. g.1 ((parts_case d).1 c))
+      let are' = subst (λ z. AreStates (families_of lists) (frames_of k xs) (s ∷ z) xs out) is.2 are in
+      let g = case_states lists k (record { pure = a.pure; spatial = xs }) s out (is.0, is.1) are' d in
+      (λ m. (atoms_case d).0 (g.0 m), λ c. g.1 ((atoms_case d).1 c))
 
   module _ (most : ℕ) where
-    pub small_case : (first : List BasePair) → IsFirst k atoms a.pure first
-        → ¬ PassesFrom most (families_of lists) (frames_of k atoms) first atoms
+    pub small_case : (first : List BasePair) → IsFirst k xs a.pure first
+        → ¬ PassesFrom most (families_of lists) (frames_of k xs) first xs
         → ¬ IsLarge most (in_table table) k a
-    small_case first is n l = by first is n (large_passes table cell k most a ordered.parts xs ordered.whole ordered.all
-        ordered.order l)
+    small_case first is n l = by first is n (large_passes table cell k most a xs ordered.order l)
       where
-        by : (first : List BasePair) → IsFirst k atoms a.pure first
-            → ¬ PassesFrom most (families_of lists) (frames_of k atoms) first atoms
-            → Passes most (families_of lists) k a.pure atoms → ⊥
+        by : (first : List BasePair) → IsFirst k xs a.pure first
+            → ¬ PassesFrom most (families_of lists) (frames_of k xs) first xs
+            → Passes most (families_of lists) k a.pure xs → ⊥
         by [] is n p = is p.0
-        by (s ∷ ss) is n p = n (subst (λ z. PassesFrom most (families_of lists) (frames_of k atoms) z atoms)
+        by (s ∷ ss) is n p = n (subst (λ z. PassesFrom most (families_of lists) (frames_of k xs) z xs)
             (λ i. sym is.1 i ∷ sym is.2 i) p.1)
 
-    some_parts : HasSome table cell xs → HasSome table cell ordered.parts
-    some_parts h = each_reordered (λ x. 0 < length (part_pairs table cell x)) xs ordered.parts ordered.all h
+    some_here : HasSome table cell xs → HasSome table cell a.spatial
+    some_here h = each_reordered (λ x. 0 < length (atom_pairs table cell x)) xs a.spatial ordered.all h
 
-    pub large_case : (first : List BasePair) → IsFirst k atoms a.pure first → HasSome table cell xs
-        → PassesFrom most (families_of lists) (frames_of k atoms) first atoms → IsLarge most (in_table table) k a
+    pub large_case : (first : List BasePair) → IsFirst k xs a.pure first → HasSome table cell xs
+        → PassesFrom most (families_of lists) (frames_of k xs) first xs → IsLarge most (in_table table) k a
     large_case [] is some p = absurd (no_states p.0 p.1)
       where
-        no_states : (n : ℕ) → HasMore most (IsReached (families_of lists) (frames_of k atoms) [] (take n atoms)) → ⊥
+        no_states : (n : ℕ) → HasMore most (IsReached (families_of lists) (frames_of k xs) [] (take n xs)) → ⊥
         no_states n h = by h.list h.are h.more
           where
             by : (list : List BasePair)
-                → Each (IsReached (families_of lists) (frames_of k atoms) [] (take n atoms)) list
+                → Each (IsReached (families_of lists) (frames_of k xs) [] (take n xs)) list
                 → most < sizes list → ⊥
             by [] e l = let z : sizes [] ≡ 0 = refl in absurd (omega arith)
             by (d ∷ list) e l = e.0.1
     large_case (s ∷ ss) is some p =
-        passes_large table cell k most a ordered.parts xs ordered.whole ordered.all ordered.order (some_parts some) (
+        passes_large table cell k most a xs ordered.order (some_here some) (
           is.0,
-          subst (λ z. PassesFrom most (families_of lists) (frames_of k atoms) z atoms) (λ i. is.1 i ∷ is.2 i) p,
+          subst (λ z. PassesFrom most (families_of lists) (frames_of k xs) z xs) (λ i. is.1 i ∷ is.2 i) p,
         )
 
-    pub large_first : (first : List BasePair) → IsFirst k atoms a.pure first → most < sizes first
-        → PassesFrom most (families_of lists) (frames_of k atoms) first atoms
+    pub large_first : (first : List BasePair) → IsFirst k xs a.pure first → most < sizes first
+        → PassesFrom most (families_of lists) (frames_of k xs) first xs
     large_first [] is l = let z : sizes [] ≡ 0 = refl in absurd (omega arith)
-    large_first (s ∷ ss) is l = subst (λ z. PassesFrom most (families_of lists) (frames_of k atoms) (s ∷ z) atoms)
-        (sym is.2) (passes_first most (families_of lists) (frames_of k atoms) s atoms (record {
+    large_first (s ∷ ss) is l = subst (λ z. PassesFrom most (families_of lists) (frames_of k xs) (s ∷ z) xs)
+        (sym is.2) (passes_first most (families_of lists) (frames_of k xs) s xs (record {
           list = s ∷ [];
           distinct = ((λ m. m), tt);
           are = (refl, tt);
@@ -189,13 +167,13 @@ module _ (k : ℕ) (a : SymbolicHeap) (table : Table) (cell : List BasePair) (xs
 
     -- no base pair for some atom
     pub none_there : cell ≡ cell_pair_alone → ¬ HasSome table cell xs → ¬ IsLarge most (in_table table) k a
-    none_there cells none = none_large table cell k a ordered.parts ordered.whole cells
-        (λ h. none (reordered_each (λ x. 0 < length (part_pairs table cell x)) xs ordered.parts ordered.all h)) most
+    none_there cells none = none_large table cell k a cells
+        (λ h. none (reordered_each (λ x. 0 < length (atom_pairs table cell x)) xs a.spatial ordered.all h)) most
 
   pub none_out : cell ≡ cell_pair_alone → ¬ HasSome table cell xs → (d : BasePair) → CaseGives (in_table table) k d a
       → ⊥
-  none_out cells none d c = (none_given table cell k a ordered.parts ordered.whole cells
-      (λ h. none (reordered_each (λ x. 0 < length (part_pairs table cell x)) xs ordered.parts ordered.all h)) [] refl
+  none_out cells none d c = (none_given table cell k a cells
+      (λ h. none (reordered_each (λ x. 0 < length (atom_pairs table cell x)) xs a.spatial ordered.all h)) [] refl
       d).1 c
 
 -- ---- turns
@@ -305,12 +283,12 @@ done_put ds states A B s t e f has found small = record {
 
 -- a case with an atom that has no base pair
 pub done_none : (ds : List Definition) (states : ℕ) (T : Table) (cell : List BasePair) (t : Turn)
-    → cell ≡ cell_pair_alone → IsTurn ds states T cell t → ¬ HasSome T cell (parts_of t.stages.items)
+    → cell ≡ cell_pair_alone → IsTurn ds states T cell t → ¬ HasSome T cell (atoms_of t.stages.items)
     → IsDone ds states T T t
 done_none ds states T cell t cells is none = record {
-  given = λ b c. absurd (none_out (width_of ds t) (heap_of ds t) T cell (parts_of t.stages.items) is.is.ordered cells
+  given = λ b c. absurd (none_out (width_of ds t) (heap_of ds t) T cell (atoms_of t.stages.items) is.is.ordered cells
       none b c);
-  small = none_there (width_of ds t) (heap_of ds t) T cell (parts_of t.stages.items) is.is.ordered states cells none;
+  small = none_there (width_of ds t) (heap_of ds t) T cell (atoms_of t.stages.items) is.is.ordered states cells none;
 }
 
 -- ---- all base pairs are taken in
@@ -324,41 +302,41 @@ module _ (ds : List Definition) (most : ℕ) (T : Table) (cell : List BasePair) 
   abbrev first : List BasePair
   first = t.first.items
 
-  abbrev xs : List Part
-  xs = parts_of t.stages.items
+  abbrev xs : List Spatial
+  xs = atoms_of t.stages.items
 
-  pub turn_within : Each (IsWithin (suc (length (kept_terms k (atoms_of xs))))) first
-  turn_within = first_within k (atoms_of xs) (heap_of ds t).pure first is.is.first
+  pub turn_within : Each (IsWithin (suc (length (kept_terms k xs)))) first
+  turn_within = first_within k xs (heap_of ds t).pure first is.is.first
 
-  module _ (ss : List Stage) (same : parts_of ss ≡ xs) (a : AreStages most T cell k first (length first) ss)
+  module _ (ss : List Stage) (same : atoms_of ss ≡ xs) (a : AreStages most T cell k first (length first) ss)
       (full : IsFull T cell ss) where
-    within : Each (IsWithin (suc (length (kept_terms k (atoms_of (parts_of ss)))))) first
-    within = subst (λ z. Each (IsWithin (suc (length (kept_terms k (atoms_of z))))) first) (sym same) turn_within
+    within : Each (IsWithin (suc (length (kept_terms k (atoms_of ss))))) first
+    within = subst (λ z. Each (IsWithin (suc (length (kept_terms k z)))) first) (sym same) turn_within
 
     pub taken_out : (d : BasePair) → IsMember d (outcome first ss) ↔ CaseGives (in_table T) k d (heap_of ds t)
     taken_out = given_out k (heap_of ds t) T cell xs is.is.ordered first (outcome first ss) is.is.first
-        (subst (λ z. AreStates (families_of (lists_of T cell z)) (frames_of k (atoms_of z)) first (atoms_of z)
+        (subst (λ z. AreStates (families_of (lists_of T cell z)) (frames_of k z) first z
         (outcome first ss)) same (stages_states most k T cell cells first ss within a full))
 
     pub taken_small : sizes first ≤ most → ¬ IsLarge most (in_table T) k (heap_of ds t)
     taken_small few = small_case k (heap_of ds t) T cell xs is.is.ordered most first is.is.first
-        (subst (λ z. ¬ PassesFrom most (families_of (lists_of T cell z)) (frames_of k (atoms_of z)) first (atoms_of z))
+        (subst (λ z. ¬ PassesFrom most (families_of (lists_of T cell z)) (frames_of k z) first z)
         same (stages_few most k T cell cells first ss within few a full))
 
     module _ (u : Turn) (pred : u.pred ≡ t.pred) (place : u.place ≡ t.place) (firsts : u.first.items ≡ first)
         (begun : u.begun ≡ length first) (put : u.put ≡ t.put) (stages : u.stages.items ≡ ss)
         (longer : Extends (found_by t) (outcome first ss)) where
-      parts_same : parts_of u.stages.items ≡ xs
-      parts_same = ap parts_of stages ∙ same
+      atoms_same : atoms_of u.stages.items ≡ xs
+      atoms_same = ap atoms_of stages ∙ same
 
       found_is : found_by u ≡ outcome first ss
       found_is = λ i. outcome (firsts i) (stages i)
 
       turn_of_case : IsTurnOf k (heap_of ds t) most T cell u
       turn_of_case = record {
-        ordered = subst (AreOrdered k (heap_of ds t).spatial) (sym parts_same) is.is.ordered;
-        first = subst (λ z. IsFirst k (atoms_of z) (heap_of ds t).pure u.first.items) (sym parts_same)
-            (subst (IsFirst k (atoms_of xs) (heap_of ds t).pure) (sym firsts) is.is.first);
+        ordered = subst (AreOrdered k (heap_of ds t).spatial) (sym atoms_same) is.is.ordered;
+        first = subst (λ z. IsFirst k z (heap_of ds t).pure u.first.items) (sym atoms_same)
+            (subst (IsFirst k xs (heap_of ds t).pure) (sym firsts) is.is.first);
         begun = let l = ap length firsts in omega arith;
         stages = subst (λ z. AreStages most T cell k z u.begun u.stages.items) (sym firsts)
             (subst (λ n. AreStages most T cell k first n u.stages.items) (sym begun)
@@ -420,12 +398,6 @@ pub has_turns : (ds : List Definition) (p : ℕ) (ts us : List Turn) → map cas
 has_turns ds p ts us e h i l = subst (IsMember {X = ℕ × ℕ} (p, i)) (sym e) (h i l)
 
 -- ---- turns are pushed
-
-pub read_at : {X : Type 0} (xs : List X) (i : ℕ) (x d : X) → i < length xs → get_or xs i x ≡ x
-    → x ≡ slice_index_or xs i d
-read_at [] i x d l e = absurd (omega arith)
-read_at (y ∷ xs) zero x d l e = sym e
-read_at (y ∷ xs) (suc i) x d l e = read_at xs i x d (omega arith) e
 
 module _ (xs new : List Turn) (x : Turn) (e : new ≡ xs ++ (x ∷ [])) where
   cases_are : map case_of new ≡ map case_of xs ++ (case_of x ∷ [])

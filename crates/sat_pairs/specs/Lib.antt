@@ -1,6 +1,6 @@
 pub mod Numbers
 pub mod Growth
-pub mod Parts
+pub mod Atoms
 pub mod CaseStates
 pub mod Joins
 pub mod Stages

@@ -6,19 +6,16 @@ use Rattle.pair_family.specs.BasePairs.{BasePair}
 use Rattle.pair_family.specs.Folding.{spoken}
 use Rattle.pair_family.specs.Labels.{GivesFrom, Grows, HasRoom}
 use Rattle.pair_family.specs.Tables.{Table}
-use Rattle.sat_pairs.specs.declared.parts.Part.{Part}
-use Rattle.sat_pairs.specs.declared.parts.Share.TheVariants.{All}
 use Rattle.sat_pairs.specs.declared.stages.Stage.{Stage}
 use Rattle.sat_pairs.specs.Numbers.{count_from, kept_numbers, places_in}
-use Rattle.sat_pairs.specs.Parts.{atom_pairs, atoms_of}
+use Rattle.sat_pairs.specs.Atoms.{atom_pairs}
 
--- the atoms of stages, each with all its base pairs
-abbrev pub parts_of : List Stage → List Part
-parts_of ss = map (λ s. record { atom = s.atom; share = All }) ss
+abbrev pub atoms_of : List Stage → List Spatial
+atoms_of ss = map (λ s. s.atom) ss
 
 -- the base pairs of a stage's atom
 abbrev pub pairs_at : Table → List BasePair → Stage → List BasePair
-pairs_at table cell s = atom_pairs table cell s.atom All
+pairs_at table cell s = atom_pairs table cell s.atom
 
 -- d is what some of these states give at a stage with some of these base pairs
 abbrev pub GivesAt : Stage → List BasePair → List BasePair → BasePair → Type 0
@@ -54,7 +51,7 @@ pub record IsStage (most k : ℕ) (rest : List Spatial) (pairs before : List Bas
 abbrev pub AreStages : ℕ → Table → List BasePair → ℕ → List BasePair → ℕ → List Stage → Type 0
 AreStages most table cell k before done [] = Unit {0}
 AreStages most table cell k before done (s ∷ ss) =
-    IsStage most k (atoms_of (parts_of ss)) (pairs_at table cell s) before done s
+    IsStage most k (atoms_of ss) (pairs_at table cell s) before done s
     × AreStages most table cell k s.states.keys (length s.states.keys) ss
 
 -- each stage has taken in all base pairs

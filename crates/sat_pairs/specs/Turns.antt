@@ -15,11 +15,9 @@ use Rattle.pair_family.specs.LargeCases.{IsLarge}
 use Rattle.pair_family.specs.Reordering.{Reorders}
 use Rattle.pair_family.specs.Tables.{Table, in_table, pairs_of}
 use Rattle.cyc_basics.specs.Words.{IsMember}
-use Rattle.sat_pairs.specs.declared.parts.Part.{Part}
 use Rattle.sat_pairs.specs.declared.turns.Turn.{Turn}
 use Rattle.sat_pairs.specs.Growth.{HasGiven}
-use Rattle.sat_pairs.specs.Parts.{AreWhole, atoms_of}
-use Rattle.sat_pairs.specs.Stages.{AreStages, outcome, parts_of}
+use Rattle.sat_pairs.specs.Stages.{AreStages, atoms_of, outcome}
 
 -- what pure atoms say of the terms of spatial ones and of k parameters, alone; nothing where they exclude one another
 abbrev pub IsFirst : ℕ → List Spatial → List Pure → List BasePair → Type 0
@@ -41,18 +39,16 @@ width_of ds t = arity_of ds t.pred
 abbrev pub found_by : Turn → List BasePair
 found_by t = outcome t.first.items t.stages.items
 
--- the atoms are those of a case, each with all its base pairs, in the order of a join
-pub record AreOrdered (k : ℕ) (atoms : List Spatial) (xs : List Part) : Type 0 where
-  pub parts : List Part
-  pub whole : AreWhole atoms parts
-  pub all : Reorders xs parts
-  pub order : atoms_of xs ≡ join_order k (atoms_of parts)
+-- the atoms xs are those of a case, in the order of a join
+pub record AreOrdered (k : ℕ) (atoms xs : List Spatial) : Type 0 where
+  pub all : Reorders xs atoms
+  pub order : xs ≡ join_order k atoms
 
 -- the turn is of case a, for k parameters, and what it has taken in is of the table
 pub record IsTurnOf (k : ℕ) (a : SymbolicHeap) (most : ℕ) (table : Table) (cell : List BasePair) (t : Turn) : Type 0
   where
-    pub ordered : AreOrdered k a.spatial (parts_of t.stages.items)
-    pub first : IsFirst k (atoms_of (parts_of t.stages.items)) a.pure t.first.items
+    pub ordered : AreOrdered k a.spatial (atoms_of t.stages.items)
+    pub first : IsFirst k (atoms_of t.stages.items) a.pure t.first.items
     pub begun : t.begun ≤ length t.first.items
     pub stages : AreStages most table cell k t.first.items t.begun t.stages.items
     pub put : t.put ≤ length (found_by t)

@@ -14,14 +14,14 @@ ghost use Rattle.pair_family.specs.Tables.{IsTable, in_table};
 ghost use Rattle.cyc_basics.specs.Words.{IsMember};
 ghost use Rattle.pair_family.specs.Within.{IsWithin};
 ghost use Rattle.sat_pairs.specs.Numbers.{places_in, cell_pair_alone, equal_places, differ_places, pure_pair_at};
-ghost use Rattle.sat_pairs.specs.Parts.{atoms_of, lists_of, AreWhole, HasSome, PartsGive};
+ghost use Rattle.sat_pairs.specs.Atoms.{lists_of, AtomsGive, HasSome};
 ghost use Rattle.sat_pairs.specs.CaseStates.{GivesBy, GivesTo, Passes, PassesFrom, Starts, StartsAt, StepsBy, StepsTo};
 
+use crate::atoms::{have_some, pairs_of_atom};
 use crate::numbers::{
     kept_numbers, number_of, numbers_below, place_of, places_of, push_pure, push_spoken,
 };
 use crate::orders::in_join_order;
-use crate::parts::{Part, have_some, pairs_of_part, whole_parts};
 use crate::tables::Table;
 use cyc_basics::memory::OutOfMemory;
 use heap_formula::{Heap, Pure, Spatial};
@@ -102,16 +102,16 @@ fn start_at(
     Ok(combined?)
 }
 
-/// What the pure atoms say of the terms that the parts speak of and of the parameters, unless they exclude one another.
+/// What the pure atoms say of the terms that the atoms speak of and of the parameters, unless they exclude one another.
 pub fn start(
     alloc: Global,
     k: u32,
-    parts: &[Part],
+    atoms: &[Spatial],
     pure: &[Pure],
 ) -> Result<Option<Known>, OutOfMemory>
-    ensures { IfOk result (Starts k (atoms_of parts.now) pure.now) }
+    ensures { IfOk result (Starts k atoms.now pure.now) }
 {
-    let mut numbers = kept_numbers(alloc, k, parts)?;
+    let mut numbers = kept_numbers(alloc, k, atoms)?;
     let count = numbers.len();
     push_pure(&mut numbers, pure)?;
     start_at(alloc, &numbers, count, pure)
@@ -166,20 +166,20 @@ fn step(
     next
 }
 
-/// The states after an atom that stands before the parts `rest`.
+/// The states after an atom that stands before the atoms `rest`.
 fn step_to(
     alloc: Global,
     k: u32,
     atom: &Spatial,
-    rest: &[Part],
+    rest: &[Spatial],
     pairs: &[Known],
     states: &[Known],
     most: usize,
 ) -> Result<IndexSet<Known>, StatesFault>
-    ensures given { IfOk result (λ v. StepsTo k atom.now (atoms_of rest.now) pairs.now states.now v.keys) }
+    ensures given { IfOk result (λ v. StepsTo k atom.now rest.now pairs.now states.now v.keys) }
     ensures few { IfOk result (λ v. sizes v.keys ≤ most) }
     ensures many { result ≡ Err StatesFault.TooManyStates
-        → HasMore most (GivesTo k atom.now (atoms_of rest.now) pairs.now states.now) }
+        → HasMore most (GivesTo k atom.now rest.now pairs.now states.now) }
 {
     let mut numbers = kept_numbers(alloc, k, rest)?;
     let after = numbers.len();
@@ -187,90 +187,88 @@ fn step_to(
     step(alloc, &numbers, after, atom, pairs, states, most)
 }
 
-/// The first part, and the others.
-fn first_of(parts: &[Part]) -> (&Part, &[Part])
-    requires { 0 < length parts.now }
-    ensures { parts.now ≡ result.0.now ∷ result.1.now }
+/// The first atom, and the others.
+fn first_of(atoms: &[Spatial]) -> (&Spatial, &[Spatial])
+    requires { 0 < length atoms.now }
+    ensures { atoms.now ≡ result.0.now ∷ result.1.now }
 {
-    (&parts[0], &parts[1..])
+    (&atoms[0], &atoms[1..])
 }
 
-/// The states after the parts, in this order, unless those after some of them are too much.
+/// The states after the atoms, in this order, unless those after some of them are too much.
 fn fold(
     alloc: Global,
     table: &Table,
     cell: &[Known],
     k: u32,
-    parts: &[Part],
+    atoms: &[Spatial],
     states: IndexSet<Known>,
     most: usize,
 ) -> Result<IndexSet<Known>, StatesFault>
     requires cell { cell.now ≡ cell_pair_alone }
-    requires within { Each (IsWithin (suc (length (kept_terms k (atoms_of parts.now))))) states.keys }
+    requires within { Each (IsWithin (suc (length (kept_terms k atoms.now)))) states.keys }
     requires few { sizes states.keys ≤ most }
-    ensures given { IfOk result (λ out. AreStates (families_of (lists_of table.now cell.now parts.now))
-        (frames_of k (atoms_of parts.now)) states.keys (atoms_of parts.now) out.keys) }
-    ensures few { IfOk result (λ _. ¬ PassesFrom most (families_of (lists_of table.now cell.now parts.now))
-        (frames_of k (atoms_of parts.now)) states.keys (atoms_of parts.now)) }
+    ensures given { IfOk result (λ out. AreStates (families_of (lists_of table.now cell.now atoms.now))
+        (frames_of k atoms.now) states.keys atoms.now out.keys) }
+    ensures few { IfOk result (λ _. ¬ PassesFrom most (families_of (lists_of table.now cell.now atoms.now))
+        (frames_of k atoms.now) states.keys atoms.now) }
     ensures many { result ≡ Err StatesFault.TooManyStates → PassesFrom most
-        (families_of (lists_of table.now cell.now parts.now))
-        (frames_of k (atoms_of parts.now)) states.keys (atoms_of parts.now) }
+        (families_of (lists_of table.now cell.now atoms.now))
+        (frames_of k atoms.now) states.keys atoms.now }
 {
-    if parts.is_empty() {
+    if atoms.is_empty() {
         return Ok(states);
     }
-    let (part, rest) = first_of(parts);
-    let pairs = pairs_of_part(table, cell, part);
-    let next = step_to(alloc, k, &part.atom, rest, pairs, states.as_slice(), most);
+    let (atom, rest) = first_of(atoms);
+    let pairs = pairs_of_atom(table, cell, atom);
+    let next = step_to(alloc, k, atom, rest, pairs, states.as_slice(), most);
     drop(states);
     fold(alloc, table, cell, k, rest, next?, most)
 }
 
-/// The base pairs that parts in this order give, with pure atoms, for a predicate with k parameters, unless the states
-/// after some of the parts are too much.
+/// The base pairs that atoms in this order give, with pure atoms, for a predicate with k parameters, unless the states
+/// after some of the atoms are too much.
 fn given_in_order(
     alloc: Global,
     table: &Table,
     cell: &[Known],
     k: u32,
-    parts: &[Part],
+    atoms: &[Spatial],
     pure: &[Pure],
     most: usize,
 ) -> Result<IndexSet<Known>, StatesFault>
     requires cell { cell.now ≡ cell_pair_alone }
     ensures given { IfOk result (λ out. (d : BasePair)
-        → IsMember d out.keys ↔ PartsGive table.now cell.now k pure.now d parts.now) }
-    ensures few { IfOk result (λ _. ¬ Passes most (families_of (lists_of table.now cell.now parts.now)) k
-        pure.now (atoms_of parts.now)) }
+        → IsMember d out.keys ↔ AtomsGive table.now cell.now k pure.now d atoms.now) }
+    ensures few { IfOk result (λ _. ¬ Passes most (families_of (lists_of table.now cell.now atoms.now)) k
+        pure.now atoms.now) }
     ensures many { result ≡ Err StatesFault.TooManyStates
-        → Passes most (families_of (lists_of table.now cell.now parts.now)) k pure.now (atoms_of parts.now) }
+        → Passes most (families_of (lists_of table.now cell.now atoms.now)) k pure.now atoms.now }
 {
-    let Some(first) = start(alloc, k, parts, pure)? else {
+    let Some(first) = start(alloc, k, atoms, pure)? else {
         return Ok(IndexSet::new(alloc));
     };
     let states = first_states(alloc, first, most)?;
-    fold(alloc, table, cell, k, parts, states, most)
+    fold(alloc, table, cell, k, atoms, states, most)
 }
 
-/// The base pairs that whole parts give, each with some base pair, in the order of a join.
+/// The base pairs that a case gives, each of whose atoms has some base pair, in the order of a join.
 fn given_in_join(
     alloc: Global,
     table: &Table,
     cell: &[Known],
     k: u32,
-    parts: Vec<Part>,
     case: &Heap,
     most: usize,
 ) -> Result<IndexSet<Known>, StatesFault>
     requires cell { cell.now ≡ cell_pair_alone }
-    requires whole { AreWhole case.now.spatial parts.items }
-    requires some { HasSome table.now cell.now parts.items }
+    requires some { HasSome table.now cell.now case.now.spatial }
     ensures given { IfOk result (λ out. (d : BasePair)
         → IsMember d out.keys ↔ CaseGives (in_table table.now) k d case.now) }
     ensures few { IfOk result (λ _. ¬ IsLarge most (in_table table.now) k case.now) }
     ensures many { result ≡ Err StatesFault.TooManyStates → IsLarge most (in_table table.now) k case.now }
 {
-    let ordered = in_join_order(alloc, k, parts)?;
+    let ordered = in_join_order(alloc, k, case.spatial())?;
     given_in_order(alloc, table, cell, k, &ordered, case.pure(), most)
 }
 
@@ -289,11 +287,10 @@ pub fn given_by(
     ensures many { result ≡ Err StatesFault.TooManyStates → IsLarge most (in_table table.now) k case.now }
 {
     let cell = cell_pairs(alloc)?;
-    let parts = whole_parts(alloc, case.spatial())?;
-    if !have_some(table, &cell, &parts) {
+    if !have_some(table, &cell, case.spatial()) {
         return Ok(IndexSet::new(alloc));
     }
-    given_in_join(alloc, table, &cell, k, parts, case, most)
+    given_in_join(alloc, table, &cell, k, case, most)
 }
 
 /// Whether some stack and heap satisfy a symbolic heap, unless its states are more in size than `most`. The table is

@@ -2,10 +2,10 @@
 #![tactic(auto)]
 
 mod agenda;
+mod atoms;
 mod cases;
 mod numbers;
 mod orders;
-mod parts;
 mod rounds;
 mod stages;
 mod tables;

@@ -7,9 +7,7 @@ ghost use Rattle.pair_family.specs.Folding.{spoken};
 ghost use Rattle.heap_formula.specs.Fresh.{variables_from};
 ghost use Rattle.sat_pairs.specs.Numbers.{numbered, with_numbers, with_pure_numbers, kept_numbers as kept_numbers_of};
 ghost use Rattle.sat_pairs.specs.Numbers.{place_in, places_in, sides_of, count_from};
-ghost use Rattle.sat_pairs.specs.Parts.{atoms_of};
 
-use crate::parts::Part;
 use cyc_basics::memory::OutOfMemory;
 use heap_formula::{Pure, Spatial, Term};
 use std::alloc::Global;
@@ -76,15 +74,15 @@ fn parameter_numbers(alloc: Global, k: u32) -> Result<Vec<u64>, OutOfMemory>
     Ok(numbers)
 }
 
-/// The numbers of nil, of k parameters and of the terms of which the parts' base pairs speak, each once.
-pub fn kept_numbers(alloc: Global, k: u32, parts: &[Part]) -> Result<Vec<u64>, OutOfMemory>
-    ensures { IfOk result (λ v. v.items ≡ kept_numbers_of k (atoms_of parts.now)) }
+/// The numbers of nil, of k parameters and of the terms of which the atoms' base pairs speak, each once.
+pub fn kept_numbers(alloc: Global, k: u32, atoms: &[Spatial]) -> Result<Vec<u64>, OutOfMemory>
+    ensures { IfOk result (λ v. v.items ≡ kept_numbers_of k atoms.now) }
 {
-    if parts.is_empty() {
+    if atoms.is_empty() {
         return parameter_numbers(alloc, k);
     }
-    let mut numbers = kept_numbers(alloc, k, &parts[1..])?;
-    push_spoken(&mut numbers, &parts[0].atom)?;
+    let mut numbers = kept_numbers(alloc, k, &atoms[1..])?;
+    push_spoken(&mut numbers, &atoms[0])?;
     Ok(numbers)
 }
 

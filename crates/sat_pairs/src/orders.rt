@@ -4,12 +4,10 @@ ghost use Rattle.pair_family.specs.Frames.{has_term as has_term_of};
 ghost use Rattle.pair_family.specs.JoinOrder.{speaks_of as atom_speaks, is_new as is_new_in, is_shared as is_shared_in};
 ghost use Rattle.pair_family.specs.JoinOrder.{is_needed as is_needed_in, cost_at, cost_of as cost_in};
 ghost use Rattle.pair_family.specs.JoinOrder.{is_less as costs_less, cheapest as cheapest_of, join_order};
-ghost use Rattle.pair_family.specs.Reordering.{Reorders, IsTakenOut};
-ghost use Rattle.sat_pairs.specs.Parts.{atoms_of};
-ghost use Rattle.sat_pairs.specs.Joins.{IsFirstTaken, IsJoined, pair_of_cost};
+ghost use Rattle.pair_family.specs.Reordering.{Reorders};
+ghost use Rattle.sat_pairs.specs.Joins.{IsJoined, pair_of_cost};
 
 use crate::numbers::number_of;
-use crate::parts::Part;
 use cyc_basics::memory::OutOfMemory;
 use heap_formula::{Spatial, Term};
 use std::alloc::Global;
@@ -50,38 +48,34 @@ fn speaks_of(atom: &Spatial, term: Term) -> bool
     }
 }
 
-/// Whether none of the parts speaks of the term.
-fn is_new(taken: &[Part], term: Term) -> bool
-    ensures { result ≡ is_new_in (atoms_of taken.now) term }
+/// Whether none of the atoms speaks of the term.
+fn is_new(taken: &[Spatial], term: Term) -> bool
+    ensures { result ≡ is_new_in taken.now term }
 {
-    for part in taken {
-        if speaks_of(&part.atom, term) {
+    for atom in taken {
+        if speaks_of(atom, term) {
             return false;
         }
     }
     true
 }
 
-/// How many of the parts speak of the term.
-#[tactic(auto, using(crate::proofs::Joins::counted_atoms))]
-fn count_speaking(parts: &[Part], term: Term) -> usize
-    ensures { result ≡ count_by (atom_speaks term) (atoms_of parts.now) }
+/// How many of the atoms speak of the term.
+fn count_speaking(atoms: &[Spatial], term: Term) -> usize
+    ensures { result ≡ count_by (atom_speaks term) atoms.now }
 {
-    parts
-        .iter()
-        .filter(|part| speaks_of(&part.atom, term))
-        .count()
+    atoms.iter().filter(|atom| speaks_of(atom, term)).count()
 }
 
-fn is_shared(left: &[Part], term: Term) -> bool
-    ensures { result ≡ is_shared_in (atoms_of left.now) term }
+fn is_shared(left: &[Spatial], term: Term) -> bool
+    ensures { result ≡ is_shared_in left.now term }
 {
     count_speaking(left, term) >= 2
 }
 
-/// Whether the term is kept after a part with it is taken: a parameter, or one of which another part speaks.
-fn is_needed(k: u32, left: &[Part], term: Term) -> bool
-    ensures { result ≡ is_needed_in k (atoms_of left.now) term }
+/// Whether the term is kept after an atom with it is taken: a parameter, or one of which another atom speaks.
+fn is_needed(k: u32, left: &[Spatial], term: Term) -> bool
+    ensures { result ≡ is_needed_in k left.now term }
 {
     match term {
         Term::Nil => false,
@@ -91,8 +85,8 @@ fn is_needed(k: u32, left: &[Part], term: Term) -> bool
 }
 
 /// How many of the terms are needed and new.
-fn count_new(k: u32, taken: &[Part], left: &[Part], terms: &[Term]) -> usize
-    ensures { result ≡ count_by (λ t. is_needed_in k (atoms_of left.now) t && is_new_in (atoms_of taken.now) t)
+fn count_new(k: u32, taken: &[Spatial], left: &[Spatial], terms: &[Term]) -> usize
+    ensures { result ≡ count_by (λ t. is_needed_in k left.now t && is_new_in taken.now t)
         terms.now }
 {
     terms
@@ -102,8 +96,8 @@ fn count_new(k: u32, taken: &[Part], left: &[Part], terms: &[Term]) -> usize
 }
 
 /// How many of the terms are needed.
-fn count_needed(k: u32, left: &[Part], terms: &[Term]) -> usize
-    ensures { result ≡ count_by (is_needed_in k (atoms_of left.now)) terms.now }
+fn count_needed(k: u32, left: &[Spatial], terms: &[Term]) -> usize
+    ensures { result ≡ count_by (is_needed_in k left.now) terms.now }
 {
     terms
         .iter()
@@ -111,16 +105,16 @@ fn count_needed(k: u32, left: &[Part], terms: &[Term]) -> usize
         .count()
 }
 
-fn cost_of_terms(k: u32, taken: &[Part], left: &[Part], terms: &[Term]) -> Cost
-    ensures { pair_of_cost result ≡ cost_at k (atoms_of taken.now) (atoms_of left.now) terms.now }
+fn cost_of_terms(k: u32, taken: &[Spatial], left: &[Spatial], terms: &[Term]) -> Cost
+    ensures { pair_of_cost result ≡ cost_at k taken.now left.now terms.now }
 {
     let new = count_new(k, taken, left, terms);
     let needed = count_needed(k, left, terms);
     Cost { new, needed }
 }
 
-fn cost_of(k: u32, taken: &[Part], left: &[Part], atom: &Spatial) -> Cost
-    ensures { pair_of_cost result ≡ cost_in k (atoms_of taken.now) (atoms_of left.now) atom.now }
+fn cost_of(k: u32, taken: &[Spatial], left: &[Spatial], atom: &Spatial) -> Cost
+    ensures { pair_of_cost result ≡ cost_in k taken.now left.now atom.now }
 {
     match atom {
         Spatial::Cell(t, _) => cost_of_terms(k, taken, left, &[*t]),
@@ -128,16 +122,16 @@ fn cost_of(k: u32, taken: &[Part], left: &[Part], atom: &Spatial) -> Cost
     }
 }
 
-/// The place of a part that costs least; the first of them.
-fn cheapest(k: u32, taken: &[Part], left: &[Part]) -> usize
+/// The place of an atom that costs least; the first of them.
+fn cheapest(k: u32, taken: &[Spatial], left: &[Spatial]) -> usize
     requires { 0 < length left.now }
-    ensures place { result ≡ cheapest_of k (atoms_of taken.now) (atoms_of left.now) }
+    ensures place { result ≡ cheapest_of k taken.now left.now }
     ensures within { result < length left.now }
 {
     let mut best = 0;
-    let mut least = cost_of(k, taken, left, &left[0].atom);
-    for (place, part) in left.iter().enumerate() {
-        let cost = cost_of(k, taken, left, &part.atom);
+    let mut least = cost_of(k, taken, left, &left[0]);
+    for (place, atom) in left.iter().enumerate() {
+        let cost = cost_of(k, taken, left, atom);
         if cost.is_less(least) {
             best = place;
             least = cost;
@@ -146,25 +140,26 @@ fn cheapest(k: u32, taken: &[Part], left: &[Part]) -> usize
     best
 }
 
-/// Some parts, and then others: always one that costs least.
-fn joined(k: u32, taken: Vec<Part>, others: Vec<Part>) -> Result<Vec<Part>, OutOfMemory>
+/// Some atoms, and then others: always one that costs least.
+fn joined(k: u32, taken: Vec<Spatial>, others: Vec<Spatial>) -> Result<Vec<Spatial>, OutOfMemory>
     ensures { IfOk result (λ v. IsJoined k taken.items others.items v.items) }
 {
     let mut ordered = taken;
     let mut left = others;
     while !left.is_empty() {
         let place = cheapest(k, &ordered, &left);
-        let part = left.remove(place);
-        ordered.push(part)?;
+        let atom = left.remove(place);
+        ordered.push(atom)?;
     }
     Ok(ordered)
 }
 
-/// The parts in the order of a join: always one after which the fewest terms are needed that are new, and of these one
+/// The atoms in the order of a join: always one after which the fewest terms are needed that are new, and of these one
 /// with the fewest terms that are needed.
-pub fn in_join_order(alloc: Global, k: u32, parts: Vec<Part>) -> Result<Vec<Part>, OutOfMemory>
-    ensures order { IfOk result (λ v. atoms_of v.items ≡ join_order k (atoms_of parts.items)) }
-    ensures all { IfOk result (λ v. Reorders v.items parts.items) }
+pub fn in_join_order(alloc: Global, k: u32, atoms: &[Spatial]) -> Result<Vec<Spatial>, OutOfMemory>
+    ensures order { IfOk result (λ v. v.items ≡ join_order k atoms.now) }
+    ensures all { IfOk result (λ v. Reorders v.items atoms.now) }
 {
-    joined(k, Vec::new(alloc), parts)
+    let left = Vec::from_slice(alloc, atoms)?;
+    joined(k, Vec::new(alloc), left)
 }

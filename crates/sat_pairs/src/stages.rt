@@ -10,14 +10,14 @@ ghost use Rattle.pair_family.specs.Tables.{IsDistinct};
 ghost use Rattle.pair_family.specs.Within.{IsWithin};
 ghost use Rattle.sat_pairs.specs.CaseStates.{PassesFrom};
 ghost use Rattle.sat_pairs.specs.Numbers.{cell_pair_alone};
-ghost use Rattle.sat_pairs.specs.Parts.{atoms_of, lists_of};
+ghost use Rattle.sat_pairs.specs.Atoms.{lists_of};
 ghost use Rattle.sat_pairs.specs.Stages.{AreFresh, AreStages, GivesAt, IsAlike, IsFresh, IsFull, IsTaken};
-ghost use Rattle.sat_pairs.specs.Stages.{outcome, parts_of};
+ghost use Rattle.sat_pairs.specs.Stages.{atoms_of, outcome};
 ghost use Rattle.sat_pairs.specs.declared.stages.Stage.{Stage};
 
+use crate::atoms::pairs_of_atom;
 use crate::cases::places_for;
 use crate::numbers::{kept_numbers, numbers_below, push_spoken};
-use crate::parts::{Part, pairs_of_atom};
 use crate::tables::Table;
 use cyc_basics::memory::OutOfMemory;
 use heap_formula::Spatial;
@@ -37,15 +37,15 @@ pub struct Stage {
     pub states: IndexSet<Known>,
 }
 
-/// The stage of an atom that stands before the parts `rest`, with no states; these may be `most` in size.
+/// The stage of an atom that stands before the atoms `rest`, with no states; these may be `most` in size.
 fn stage_of(
     alloc: Global,
     k: u32,
     atom: &Spatial,
-    rest: &[Part],
+    rest: &[Spatial],
     most: usize,
 ) -> Result<Stage, OutOfMemory>
-    ensures { IfOk result (IsFresh most k atom.now (atoms_of rest.now)) }
+    ensures { IfOk result (IsFresh most k atom.now rest.now) }
 {
     let mut numbers = kept_numbers(alloc, k, rest)?;
     let kept = numbers_below(alloc, numbers.len())?;
@@ -62,21 +62,21 @@ fn stage_of(
     })
 }
 
-/// Adds a stage for each of the parts, with no states.
+/// Adds a stage for each of the atoms, with no states.
 pub fn push_stages(
     alloc: Global,
     stages: &mut Vec<Stage>,
     k: u32,
-    parts: &[Part],
+    atoms: &[Spatial],
     most: usize,
 ) -> Result<(), OutOfMemory>
     ensures { IfOk result (λ _. (more : List Stage) × (stages.new.items ≡ stages.old.items ++ more)
-        × AreFresh most k (atoms_of parts.now) more) }
+        × AreFresh most k atoms.now more) }
 {
-    let Some((part, rest)) = parts.split_first() else {
+    let Some((atom, rest)) = atoms.split_first() else {
         return Ok(());
     };
-    let stage = stage_of(alloc, k, &part.atom, rest, most)?;
+    let stage = stage_of(alloc, k, atom, rest, most)?;
     stages.push(stage)?;
     push_stages(alloc, stages, k, rest, most)
 }
@@ -130,18 +130,18 @@ pub fn advance(
     _most: usize,
 ) -> Result<(), StatesFault>
     requires cell { cell.now ≡ cell_pair_alone }
-    requires within { Each (IsWithin (suc (length (kept_terms _k (atoms_of (parts_of stages.old)))))) before.now }
+    requires within { Each (IsWithin (suc (length (kept_terms _k (atoms_of stages.old))))) before.now }
     requires done { done ≤ length before.now }
     requires stages { AreStages _most table.now cell.now _k before.now done stages.old }
-    ensures same { IfOk result (λ _. parts_of stages.new ≡ parts_of stages.old) }
+    ensures same { IfOk result (λ _. atoms_of stages.new ≡ atoms_of stages.old) }
     ensures stages { IfOk result (λ _. AreStages _most table.now cell.now _k before.now (length before.now)
         stages.new) }
     ensures full { IfOk result (λ _. IsFull table.now cell.now stages.new) }
     ensures longer { IfOk result (λ _. (old : List BasePair) → Extends old before.now
         → Extends (outcome old stages.old) (outcome before.now stages.new)) }
     ensures many { result ≡ Err StatesFault.TooManyStates → PassesFrom _most
-        (families_of (lists_of table.now cell.now (parts_of stages.old)))
-        (frames_of _k (atoms_of (parts_of stages.old))) before.now (atoms_of (parts_of stages.old)) }
+        (families_of (lists_of table.now cell.now (atoms_of stages.old)))
+        (frames_of _k (atoms_of stages.old)) before.now (atoms_of stages.old) }
 {
     let Some((stage, rest)) = stages.split_first_mut() else {
         return Ok(());

@@ -8,17 +8,17 @@ ghost use Rattle.pair_family.specs.LargeCases.{IsLarge, sizes};
 ghost use Rattle.pair_family.specs.Tables.{in_table};
 ghost use Rattle.cyc_basics.specs.Words.{IsMember};
 ghost use Rattle.sat_pairs.specs.Numbers.{cell_pair_alone};
-ghost use Rattle.sat_pairs.specs.Parts.{HasSome, atoms_of};
-ghost use Rattle.sat_pairs.specs.Stages.{outcome, parts_of};
+ghost use Rattle.sat_pairs.specs.Atoms.{HasSome};
+ghost use Rattle.sat_pairs.specs.Stages.{atoms_of, outcome};
 ghost use Rattle.sat_pairs.specs.Turns.{HasTurns, IsFirst, IsNewTurn, IsTurn, case_at, found_by, heap_of, width_of};
 
+use crate::atoms::pairs_of_atom;
 use crate::cases::start;
 use crate::orders::in_join_order;
-use crate::parts::{Part, pairs_of_atom, whole_parts};
 use crate::stages::{Stage, advance, push_stages};
 use crate::tables::Table;
 use cyc_basics::memory::OutOfMemory;
-use heap_formula::{Heap, Pure};
+use heap_formula::{Heap, Pure, Spatial};
 use pair_family::states::{Known, StatesFault};
 use pred_defs::Defs;
 use std::alloc::Global;
@@ -36,13 +36,18 @@ pub struct Turn {
     pub put: usize,
 }
 
-/// What the pure atoms say of the terms that the parts speak of and of the parameters; nothing where they exclude one
+/// What the pure atoms say of the terms that the atoms speak of and of the parameters; nothing where they exclude one
 /// another.
-fn first_of(alloc: Global, k: u32, parts: &[Part], pure: &[Pure]) -> Result<Vec<Known>, OutOfMemory>
-    ensures { IfOk result (λ v. IsFirst k (atoms_of parts.now) pure.now v.items) }
+fn first_of(
+    alloc: Global,
+    k: u32,
+    atoms: &[Spatial],
+    pure: &[Pure],
+) -> Result<Vec<Known>, OutOfMemory>
+    ensures { IfOk result (λ v. IsFirst k atoms.now pure.now v.items) }
 {
     let mut first = Vec::new(alloc);
-    if let Some(known) = start(alloc, k, parts, pure)? {
+    if let Some(known) = start(alloc, k, atoms, pure)? {
         first.push(known)?;
     }
     Ok(first)
@@ -66,8 +71,7 @@ fn turn_of(
     ensures pred { IfOk result (λ t. t.pred ≡ pred) }
     ensures place { IfOk result (λ t. t.place ≡ place) }
 {
-    let parts = whole_parts(alloc, case.spatial())?;
-    let ordered = in_join_order(alloc, k, parts)?;
+    let ordered = in_join_order(alloc, k, case.spatial())?;
     let first = first_of(alloc, k, &ordered, case.pure())?;
     let mut stages = Vec::new(alloc);
     push_stages(alloc, &mut stages, k, &ordered, most)?;
@@ -128,7 +132,7 @@ pub fn turns_of(alloc: Global, defs: &Defs, most: usize) -> Result<Vec<Turn>, Ou
 
 /// Whether each atom has some base pair.
 pub fn have_pairs(table: &Table, cell: &[Known], stages: &[Stage]) -> bool
-    ensures { IsTrue result ↔ HasSome table.now cell.now (parts_of stages.now) }
+    ensures { IsTrue result ↔ HasSome table.now cell.now (atoms_of stages.now) }
 {
     for stage in stages {
         if pairs_of_atom(table, cell, &stage.atom).is_empty() {
@@ -175,7 +179,7 @@ impl Turn {
         requires turn { IsTurn _defs.now.list most table.now cell.now self.old }
         requires arity { k ≡ arity_of _defs.now.list self.old.pred }
         requires cell { cell.now ≡ cell_pair_alone }
-        requires some { HasSome table.now cell.now (parts_of self.old.stages.items) }
+        requires some { HasSome table.now cell.now (atoms_of self.old.stages.items) }
         ensures same { IfOk result (λ _. (self.new.pred ≡ self.old.pred) × (self.new.place ≡ self.old.place)) }
         ensures turn { IfOk result (λ _. IsTurn _defs.now.list most table.now cell.now self.new) }
         ensures found { IfOk result (λ _. (b : BasePair) → IsMember b (found_by self.new)

@@ -25,24 +25,50 @@ pub enum Asked {
     Refused(Answer),
 }
 
-/// The names of the problem's variables that the script has.
+/// The names of the universal variables with these numbers: those of the script's constants, and made up ones.
+fn universal_names(
+    alloc: Global,
+    constants: &[String],
+    numbers: &[u16],
+) -> Result<Vec<String>, OutOfMemory> {
+    let mut names = Vec::new(alloc);
+    for number in numbers {
+        let name = match constants.get(*number as usize) {
+            Some(name) => name.clone()?,
+            None => format!(in alloc; "v{number}")?,
+        };
+        names.push(name)?;
+    }
+    Ok(names)
+}
+
+/// The names that the script has for the parameters of a predicate.
+fn parameter_names(
+    alloc: Global,
+    script: &NamedScript,
+    predicate: u16,
+) -> Result<Vec<String>, OutOfMemory> {
+    let mut names = Vec::new(alloc);
+    if let Some(known) = script.parameters.get(predicate as usize) {
+        for name in known {
+            names.push(name.clone()?)?;
+        }
+    }
+    Ok(names)
+}
+
+/// The names of the goal's variables that the script has.
 fn names_of(
     alloc: Global,
-    script: NamedScript,
-    predicates: &[u16],
+    script: &NamedScript,
+    asks: &ScriptGoal,
 ) -> Result<ProblemNames, OutOfMemory> {
     let mut parameters = Vec::new(alloc);
-    for predicate in predicates {
-        let mut names = Vec::new(alloc);
-        if let Some(known) = script.parameters.get(*predicate as usize) {
-            for name in known {
-                names.push(name.clone()?)?;
-            }
-        }
-        parameters.push(names)?;
+    for predicate in &asks.predicates {
+        parameters.push(parameter_names(alloc, script, *predicate)?)?;
     }
     Ok(ProblemNames {
-        universals: script.constants,
+        universals: universal_names(alloc, &script.constants, &asks.universals)?,
         parameters,
     })
 }
@@ -60,12 +86,12 @@ fn offset_of(script: &NamedScript, place: Place, end: usize) -> usize {
 
 fn asked_script(
     alloc: Global,
-    script: NamedScript,
+    script: &NamedScript,
     asks: ScriptGoal,
 ) -> Result<AskedScript, OutOfMemory>
     ensures { IfOk result (λ asked. asked.asks ≡ asks) }
 {
-    let names = names_of(alloc, script, &asks.predicates)?;
+    let names = names_of(alloc, script, &asks)?;
     let text = problem_text(alloc, asks.version, &asks.defs, &asks.goal, &names)?;
     Ok(AskedScript { asks, text })
 }
@@ -77,7 +103,7 @@ fn asked_of_read(alloc: Global, input: &[u8], script: NamedScript) -> Result<Ask
     ensures { IfOk result (IsAskedOf input.now) }
 {
     match goal_of_script(alloc, &script.script) {
-        Ok(asks) => Ok(Asked::Script(asked_script(alloc, script, asks)?)),
+        Ok(asks) => Ok(Asked::Script(asked_script(alloc, &script, asks)?)),
         Err(ScriptRefusal::Unsupported(place, what)) => {
             let at = offset_of(&script, place, input.len());
             Ok(Asked::Refused(answer_to_unsayable(alloc, input, what, at)?))

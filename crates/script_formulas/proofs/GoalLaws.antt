@@ -23,7 +23,8 @@ use Rattle.script_formulas.specs.declared.formula.ScriptAtom.{ScriptAtom}
 use Rattle.script_formulas.specs.declared.formula.ScriptAtom.TheVariants.{Cell, Call}
 use Rattle.script_formulas.specs.declared.goals.heaps.Numbers.{Numbers}
 use Rattle.script_formulas.specs.declared.goals.heaps.Variables.{Variables}
-use Rattle.script_formulas.specs.declared.goals.heaps.Variables.TheVariants.{Known, Raised}
+use Rattle.script_formulas.specs.declared.goals.heaps.Free.{Free}
+use Rattle.script_formulas.specs.declared.goals.heaps.Free.TheVariants.{Known}
 use Rattle.script_formulas.specs.declared.goals.question.Question.{Question}
 use Rattle.script_formulas.specs.declared.goals.question.Question.TheVariants.{Entailment, Satisfiability}
 use Rattle.script_formulas.specs.declared.script.Predicate.{Predicate}
@@ -41,7 +42,7 @@ use Rattle.script_formulas.specs.Translating.{IsPlaceOf, IsSpatialOf, AreHeapsOf
 use Rattle.script_formulas.specs.Defining.{AreDefinedIn, IsAntecedent, IsAsked, IsGoalOf}
 use Rattle.script_formulas.specs.Spread.{IsApart}
 use Rattle.script_formulas.proofs.Encoding.{joined_from, one_sorted_is, encodes_apart, encodes_once, encodes_same}
-use Rattle.script_formulas.proofs.Transfer.{Encoded, IsTo, IsBack, agree_known}
+use Rattle.script_formulas.proofs.Transfer.{Encoded, IsTo, IsBack, Fits, placed, free_placed, fits_placed}
 use Rattle.script_formulas.proofs.SameQuestion.{body_found, found, closed_to, OneSeparate, separate_closed, one_to}
 use Rattle.script_formulas.proofs.SameQuestion.{one_back, impossible_fails, least_to, least_back, satisfies_of}
 use Rattle.script_formulas.proofs.MovedModels.{IsPositive, apart_model}
@@ -60,15 +61,16 @@ none_apart = record { same = λ sort other a x y e f. no_cell sort a x e }
 -- ---- the disjuncts
 
 module _ (numbers : Numbers) (locations : List ℕ) (P : SortedFamily) (ds : List Definition)
-    (to : IsTo numbers locations P (least ds)) (back : IsBack numbers locations P (least ds)) (constants : ℕ) where
-  disjuncts_to : (cs : List SymbolicCase) (bs : List SymbolicHeap) (t : Stack) (H : SortedCells) → AreDenied cs
-      → AreDisjuncts numbers constants cs bs → IsApart H → OneCaseHolds locations P t [] cs H
+    (to : IsTo numbers locations P (least ds)) (back : IsBack numbers locations P (least ds)) (constants : ℕ)
+    (order : List ℕ) where
+  disjuncts_to : (cs : List SymbolicCase) (bs : List SymbolicHeap) (s t : Stack) (H : SortedCells)
+      → Fits constants order s t → AreDenied cs → AreDisjuncts numbers constants order cs bs → IsApart H
+      → OneCaseHolds locations P s [] cs H
       → (h : Cells) × Encoded numbers locations H h × SatisfiesOne ds t h bs
-  disjuncts_to [] bs t H denied is apart one = absurd one
-  disjuncts_to (c ∷ cs) bs t H denied is apart one =
-      let r = one_to numbers locations P (least ds) (Known constants) t t
-      (λ e q. agree_known constants q t e t (λ n less. refl)) (c ∷ cs) bs H to denied.0 is apart
-      (separate_closed numbers locations P t (c ∷ cs) H denied.1 one) in (
+  disjuncts_to [] bs s t H fits denied is apart one = absurd one
+  disjuncts_to (c ∷ cs) bs s t H fits denied is apart one =
+      let r = one_to numbers locations P (least ds) is.0 s t (free_placed is.0 constants order s t is.1 fits) (c ∷ cs)
+      bs H to denied.0 is.2 apart (separate_closed numbers locations P s (c ∷ cs) H denied.1 one) in (
         r.0,
         r.1,
         OneOf-map (HeapCaseHolds (least ds) t r.0) (Satisfies ds t r.0)
@@ -76,8 +78,7 @@ module _ (numbers : Numbers) (locations : List ℕ) (P : SortedFamily) (ds : Lis
       )
 
   disjuncts_back : (cs : List SymbolicCase) (bs : List SymbolicHeap) (s t : Stack) (h : Cells)
-      → ((n : ℕ) → n < constants → slice_index t n ≡ slice_index s n) → AreFine 0 cs
-      → AreDisjuncts numbers constants cs bs → SatisfiesOne ds t h bs
+      → Fits constants order s t → AreFine 0 cs → AreDisjuncts numbers constants order cs bs → SatisfiesOne ds t h bs
       → (H : SortedCells) × Encoded numbers locations H h × OneCaseHolds locations P s [] cs H
   disjuncts_back [] bs s t h fits fine is one =
       let o : SatisfiesOne ds t h (impossible ∷ []) = subst (SatisfiesOne ds t h) is one in
@@ -86,8 +87,8 @@ module _ (numbers : Numbers) (locations : List ℕ) (P : SortedFamily) (ds : Lis
         | inr x ↦ absurd x
       ]
   disjuncts_back (c ∷ cs) bs s t h fits fine is one =
-      one_back numbers locations P (least ds) (Known constants) s t (λ e q. agree_known constants q s e t fits)
-      (c ∷ cs) bs h back fine is (OneOf-map (Satisfies ds t h) (HeapCaseHolds (least ds) t h) (holds_of ds t h) bs one)
+      one_back numbers locations P (least ds) is.0 s t (free_placed is.0 constants order s t is.1 fits) (c ∷ cs) bs h
+      back fine is.2 (OneOf-map (Satisfies ds t h) (HeapCaseHolds (least ds) t h) (holds_of ds t h) bs one)
 
 -- a case that says nothing of the heap holds of the empty one, with atoms that have separate parts; so does any other of
 -- its own
@@ -139,14 +140,14 @@ module _ (numbers : Numbers) (locations : List ℕ) where
         | inr f ↦ positive_atoms P positive v s own xs ys holds.rest z.1 holds.others sort a x f
       ]
 
-  positive_one : (P : SortedFamily) → ArePositive P → (v : Variables) (s : Stack) (cs : List SymbolicCase)
-      (bs : List SymbolicHeap) (H : SortedCells) → AreHeapsOf numbers v cs bs
+  positive_one : (P : SortedFamily) → ArePositive P → (free : Free) (s : Stack) (cs : List SymbolicCase)
+      (bs : List SymbolicHeap) (H : SortedCells) → AreHeapsOf numbers free cs bs
       → OneSeparate numbers locations P s cs H → IsPositive H
-  positive_one P positive v s [] bs H z one = absurd one
-  positive_one P positive v s (c ∷ cs) [] H z one = absurd z
-  positive_one P positive v s (c ∷ cs) (b ∷ bs) H z (inl x) =
-      positive_atoms P positive v s x.0 c.atoms b.spatial H z.0.1 x.3
-  positive_one P positive v s (c ∷ cs) (b ∷ bs) H z (inr x) = positive_one P positive v s cs bs H z.1 x
+  positive_one P positive free s [] bs H z one = absurd one
+  positive_one P positive free s (c ∷ cs) [] H z one = absurd z
+  positive_one P positive free s (c ∷ cs) (b ∷ bs) H z (inl x) =
+      positive_atoms P positive z.0.0 s x.0 c.atoms b.spatial H z.0.3.1 x.3
+  positive_one P positive free s (c ∷ cs) (b ∷ bs) H z (inr x) = positive_one P positive free s cs bs H z.1 x
 
   module _ (predicates : List Predicate) (own : List Definition)
       (defined : AreDefinedIn predicates numbers numbers.predicates.items own) where
@@ -167,24 +168,25 @@ module _ (numbers : Numbers) (locations : List ℕ) where
     positive_least : ArePositive (sorted_least locations (map (λ q. formula_of q.body) predicates))
     positive_least p k vs H place holds = positive_stage holds.0 p k vs H place holds.1
 
-  positive_antecedent : (P : SortedFamily) → ArePositive P → (constants : ℕ) (s : Stack) (cs : List SymbolicCase)
-      (a : SymbolicHeap) (own ds : List Definition) (H : SortedCells) → IsAntecedent numbers constants cs a own ds
-      → OneSeparate numbers locations P s cs H → IsPositive H
-  positive_antecedent P positive constants s [] a own ds H is one = absurd one
-  positive_antecedent P positive constants s (c ∷ []) a own ds H is one =
-      positive_one P positive (Raised constants) s (c ∷ []) (a ∷ []) H (is.0, tt) one
-  positive_antecedent P positive constants s (c ∷ d ∷ cs) a own ds H is one =
-      positive_one P positive is.0 s (c ∷ d ∷ cs) is.3 H is.7 one
+  positive_antecedent : (P : SortedFamily) → ArePositive P → (constants : ℕ) (order : List ℕ) (s : Stack)
+      (cs : List SymbolicCase) (a : SymbolicHeap) (own ds : List Definition) (H : SortedCells)
+      → IsAntecedent numbers constants order cs a own ds → OneSeparate numbers locations P s cs H → IsPositive H
+  positive_antecedent P positive constants order s [] a own ds H is one = absurd one
+  positive_antecedent P positive constants order s (c ∷ []) a own ds H is (inr x) = absurd x
+  positive_antecedent P positive constants order s (c ∷ []) a own ds H is (inl x) =
+      positive_atoms P positive is.0.0 s x.0 c.atoms a.spatial H is.0.3.1 x.3
+  positive_antecedent P positive constants order s (c ∷ d ∷ cs) a own ds H is one =
+      positive_one P positive is.inner s (c ∷ d ∷ cs) is.heaps H is.translated one
 
 -- ---- a script and its goal
 
 -- what the antecedent calls stands behind the others
-called_behind : (numbers : Numbers) (constants : ℕ) (cs : List SymbolicCase) (a : SymbolicHeap)
-    (own ds : List Definition) → IsAntecedent numbers constants cs a own ds
+called_behind : (numbers : Numbers) (constants : ℕ) (order : List ℕ) (cs : List SymbolicCase) (a : SymbolicHeap)
+    (own ds : List Definition) → IsAntecedent numbers constants order cs a own ds
     → (more : List Definition) × (ds ≡ own ++ more)
-called_behind numbers constants [] a own ds is = ([], is.1 ∙ sym (append-nil own))
-called_behind numbers constants (c ∷ []) a own ds is = ([], is.1 ∙ sym (append-nil own))
-called_behind numbers constants (c ∷ d ∷ cs) a own ds is = (is.2 ∷ [], is.6)
+called_behind numbers constants order [] a own ds is = ([], is.1 ∙ sym (append-nil own))
+called_behind numbers constants order (c ∷ []) a own ds is = ([], is.1 ∙ sym (append-nil own))
+called_behind numbers constants order (c ∷ d ∷ cs) a own ds is = (is.definition ∷ [], is.defined)
 
 module _ (script : Script) (question : Question) (ds : List Definition) (goal : Judgement) (used : List ℕ)
     (g : IsGoalOf script question ds goal used) where
@@ -194,8 +196,11 @@ module _ (script : Script) (question : Question) (ds : List Definition) (goal : 
   abbrev the_family : SortedFamily
   the_family = sorted_least (locations_of script) (bodies_of script)
 
+  abbrev the_constants : ℕ
+  the_constants = length script.constants.items
+
   front : (more : List Definition) × (ds ≡ g.own ++ more)
-  front = called_behind g.numbers (length script.constants.items) g.first g.judged.0 g.own ds g.judged.2
+  front = called_behind g.numbers the_constants g.order g.first g.judged.left g.own ds g.judged.antecedent
 
   to_problem : IsTo g.numbers the_locations the_family (least ds)
   to_problem = subst (λ l. IsTo g.numbers the_locations the_family (least l)) (sym front.1)
@@ -206,24 +211,25 @@ module _ (script : Script) (question : Question) (ds : List Definition) (goal : 
       (least_back g.numbers the_locations script.predicates.items g.own front.0 g.defined)
 
   -- what satisfies the antecedent and no disjunct shows that the script can be satisfied
-  pub refuted_satisfiable : (t : Stack) (h : Cells) → Satisfies ds t h g.judged.0
-      → (SatisfiesOne ds t h g.judged.1 → ⊥) → IsSatisfiable script
+  pub refuted_satisfiable : (t : Stack) (h : Cells) → Satisfies ds t h g.judged.left
+      → (SatisfiesOne ds t h g.judged.right → ⊥) → IsSatisfiable script
   refuted_satisfiable t h holds not_one =
-      let r = antecedent_back g.numbers the_locations the_family g.own ds to_problem from_problem
-      (length script.constants.items) g.first g.judged.0 t h g.fine_first g.judged.2 holds in
+      let s = placed g.order t 0 the_constants in
+      let r = antecedent_back g.numbers the_locations the_family g.own ds to_problem from_problem the_constants g.order
+      g.first g.judged.left t h g.fine_first g.judged.antecedent holds in
       let apart = encodes_apart the_locations g.numbers.fields.items g.numbers.widths.items g.told r.0 h r.1 in
-      let none : OneCaseHolds the_locations the_family t [] g.second r.0 → ⊥ = λ o.
-      let d = disjuncts_to g.numbers the_locations the_family ds to_problem from_problem (length script.constants.items)
-      g.second g.judged.1 t r.0 g.fine_second g.judged.3 apart o in
-      not_one (subst (λ k. SatisfiesOne ds t k g.judged.1) (encodes_same the_locations g.numbers.fields.items
+      let none : OneCaseHolds the_locations the_family s [] g.second r.0 → ⊥ = λ o.
+      let d = disjuncts_to g.numbers the_locations the_family ds to_problem from_problem the_constants g.order
+      g.second g.judged.right s t r.0 (fits_placed the_constants g.order t) g.fine_second g.judged.disjuncts apart o in
+      not_one (subst (λ k. SatisfiesOne ds t k g.judged.right) (encodes_same the_locations g.numbers.fields.items
       g.numbers.widths.items r.0 d.0 h d.1 r.1) d.2) in
-      let sides = (g.sides the_locations (bodies_of script) t r.0).1 (r.2, none) in (
-        t,
+      let sides = (g.sides the_locations (bodies_of script) s r.0).1 (r.2, none) in (
+        s,
         r.0,
         (
-          each_unmapped (λ f. FormulaHolds the_locations the_family t [] f r.0) formula_of script.asserted.items
+          each_unmapped (λ f. FormulaHolds the_locations the_family s [] f r.0) formula_of script.asserted.items
               sides.0,
-          each_unmapped (λ f. FormulaHolds the_locations the_family t [] f r.0
+          each_unmapped (λ f. FormulaHolds the_locations the_family s [] f r.0
               → ⊥) formula_of script.denied.items sides.1,
         ),
       )
@@ -238,19 +244,19 @@ module _ (script : Script) (question : Question) (ds : List Definition) (goal : 
 
   -- some values and a heap satisfy the antecedent and no disjunct
   abbrev pub IsRefuted : Type 0
-  IsRefuted = (t : Stack) × (h : Cells) × Satisfies ds t h g.judged.0 × (SatisfiesOne ds t h g.judged.1 → ⊥)
+  IsRefuted = (t : Stack) × (h : Cells) × Satisfies ds t h g.judged.left × (SatisfiesOne ds t h g.judged.right → ⊥)
 
   refuted_by : (s : Stack) (H : SortedCells) → IsApart H → OneSeparate g.numbers the_locations the_family s g.first H
       → (OneCaseHolds the_locations the_family s [] g.second H → ⊥) → IsRefuted
   refuted_by s H apart one none =
-      let r = antecedent_to g.numbers the_locations the_family g.own ds to_problem from_problem
-      (length script.constants.items) g.first g.judged.0 s H g.fine_first g.judged.2 apart one in (
+      let r = antecedent_to g.numbers the_locations the_family g.own ds to_problem from_problem the_constants g.order
+      g.first g.judged.left s H g.fine_first g.judged.antecedent apart one in (
         r.0,
         r.1,
         r.4,
         λ o.
-            let d = disjuncts_back g.numbers the_locations the_family ds to_problem from_problem
-            (length script.constants.items) g.second g.judged.1 s r.0 r.1 r.2 g.fine_second.0 g.judged.3 o in
+            let d = disjuncts_back g.numbers the_locations the_family ds to_problem from_problem the_constants g.order
+            g.second g.judged.right s r.0 r.1 r.2 g.fine_second.0 g.judged.disjuncts o in
             let same = encodes_once the_locations g.numbers.fields.items g.numbers.widths.items g.told d.0 H r.1 d.1 r.3
             in
             none (subst (OneCaseHolds the_locations the_family s [] g.second) same d.2),
@@ -263,8 +269,8 @@ module _ (script : Script) (question : Question) (ds : List Definition) (goal : 
 
   separate_positive : (s : Stack) (H : SortedCells) → OneSeparate g.numbers the_locations the_family s g.first H
       → IsPositive H
-  separate_positive s H one = positive_antecedent g.numbers the_locations the_family positive
-      (length script.constants.items) s g.first g.judged.0 g.own ds H g.judged.2 one
+  separate_positive s H one = positive_antecedent g.numbers the_locations the_family positive the_constants g.order s
+      g.first g.judged.left g.own ds H g.judged.antecedent one
 
   -- atoms of one of the first cases have separate parts of the heap, unless a case says nothing of it
   separate_or_refuted : (asks : Question) → IsAsked asks g.first g.second → (s : Stack) (H : SortedCells)
@@ -304,25 +310,26 @@ module _ (script : Script) (question : Question) (ds : List Definition) (goal : 
   -- where the goal holds, nothing satisfies its antecedent and no disjunct
   pub holds_unrefuted : (lines : List Command) → JudgementHolds ds lines goal → IsRefuted → ⊥
   holds_unrefuted lines holds r =
-      let h : JudgementHolds ds lines (Entail g.judged.0 g.judged.1) = subst (JudgementHolds ds lines) g.judged.4
+      let h : JudgementHolds ds lines (Entail g.judged.left g.judged.right) = subst (JudgementHolds ds lines) g.judged.is
       holds in
       r.3 (h r.0 r.1 r.2)
 
   pub failing_satisfiable : (lines : List Command) (t : Stack) (h : Cells) → Satisfies ds t h (antecedent goal)
       → (Concludes ds lines goal t h → ⊥) → IsSatisfiable script
   failing_satisfiable lines t h holds none =
-      refuted_satisfiable t h (subst (λ j. Satisfies ds t h (antecedent j)) g.judged.4 holds)
-      (λ o. none (subst (λ j. Concludes ds lines j t h) (sym g.judged.4) o))
+      refuted_satisfiable t h (subst (λ j. Satisfies ds t h (antecedent j)) g.judged.is holds)
+      (λ o. none (subst (λ j. Concludes ds lines j t h) (sym g.judged.is) o))
 
   -- a script that denies nothing over the heap
   pub possible_satisfiable : question ≡ Satisfiability → (t : Stack) (h : Cells) → Satisfies ds t h (antecedent goal)
       → IsSatisfiable script
   possible_satisfiable e t h holds =
       let asked : g.second ≡ [] = subst (λ q. IsAsked q g.first g.second) e g.asked in
-      refuted_satisfiable t h (subst (λ j. Satisfies ds t h (antecedent j)) g.judged.4 holds)
+      refuted_satisfiable t h (subst (λ j. Satisfies ds t h (antecedent j)) g.judged.is holds)
       (λ o.
-      let d = disjuncts_back g.numbers the_locations the_family ds to_problem from_problem
-      (length script.constants.items) g.second g.judged.1 t t h (λ n less. refl) g.fine_second.0 g.judged.3 o in
-      let none : OneCaseHolds the_locations the_family t [] [] d.0 =
-      subst (λ l. OneCaseHolds the_locations the_family t [] l d.0) asked d.2 in
+      let s = placed g.order t 0 the_constants in
+      let d = disjuncts_back g.numbers the_locations the_family ds to_problem from_problem the_constants g.order
+      g.second g.judged.right s t h (fits_placed the_constants g.order t) g.fine_second.0 g.judged.disjuncts o in
+      let none : OneCaseHolds the_locations the_family s [] [] d.0 =
+      subst (λ l. OneCaseHolds the_locations the_family s [] l d.0) asked d.2 in
       none)

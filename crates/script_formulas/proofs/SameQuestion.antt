@@ -4,7 +4,7 @@ use Rattle.std.proofs.Common.{Some, refl, sym, ap, ◌∙◌, subst, arith, inl,
 use Rattle.std.specs.Prelude.{slice_get}
 use Rattle.std.specs.List.{AllZip}
 use Rattle.heap_formula.specs.declared.terms.Term.{Term}
-use Rattle.heap_formula.specs.declared.terms.Term.TheVariants.{Univ, Exist}
+use Rattle.heap_formula.specs.declared.terms.Term.TheVariants.{Univ}
 use Rattle.heap_formula.specs.Symbolic.{SymbolicHeap}
 use Rattle.heap_formula.specs.Definitions.{Definition}
 use Rattle.heap_formula.specs.Cells.{Cells, no_cells, IsUnion}
@@ -16,23 +16,23 @@ use Rattle.heap_formula.proofs.Unions.{union_empty, union_same}
 use Rattle.heap_formula.specs.Words.{Each, OneOf}
 use Rattle.script_formulas.specs.declared.goals.heaps.Numbers.{Numbers}
 use Rattle.script_formulas.specs.declared.goals.heaps.Variables.{Variables}
-use Rattle.script_formulas.specs.declared.goals.heaps.Variables.TheVariants.{Known, Raised, Listed}
+use Rattle.script_formulas.specs.declared.goals.heaps.Free.{Free}
+use Rattle.script_formulas.specs.declared.goals.heaps.Free.TheVariants.{Known}
 use Rattle.script_formulas.specs.declared.script.Predicate.{Predicate}
 use Rattle.script_formulas.specs.Formulas.{Formula, formula_of}
 use Rattle.script_formulas.specs.Heaps.{SortedCells}
 use Rattle.script_formulas.specs.Meaning.{SortedFamily, FormulaHolds, sorted_stage, sorted_least, body_of}
 use Rattle.script_formulas.specs.Cases.{SymbolicCase}
 use Rattle.script_formulas.specs.Holding.{AtomsHold, SeparateAtomsHold, CaseHolds, OneCaseHolds}
-use Rattle.script_formulas.specs.Scope.{IsFine, AreFine}
-use Rattle.script_formulas.specs.Translating.{IsPlaceOf, IsFreeOf, IsBoundOf, IsHeapOf, AreHeapsOf}
-use Rattle.script_formulas.specs.Translating.{impossible}
+use Rattle.script_formulas.specs.Scope.{IsBound, IsFine, AreFine}
+use Rattle.script_formulas.specs.Translating.{IsPlaceOf, AreTermsOf, ArePlaced, IsHeapOf, AreHeapsOf, impossible}
 use Rattle.script_formulas.specs.Sides.{ClosedCases}
-use Rattle.script_formulas.specs.Defining.{AreCasesOf, IsDefinedIn, AreDefinedIn, IsListed, call_of}
-use Rattle.script_formulas.specs.Defining.{IsAntecedent}
+use Rattle.script_formulas.specs.Defining.{AreCasesOf, IsDefinedIn, AreDefinedIn, IsCallOf, call_of, IsAntecedent}
 use Rattle.script_formulas.specs.Spread.{IsApart}
 use Rattle.script_formulas.proofs.Transfer.{Agree, Encoded, IsTo, IsBack, pures_to, pures_back, atoms_to, atoms_back}
-use Rattle.script_formulas.proofs.Transfer.{raised, raised_front, part_of, part_at, length_part, agree_known}
-use Rattle.script_formulas.proofs.Transfer.{agree_raised, agree_lowered, agree_listed}
+use Rattle.script_formulas.proofs.Transfer.{terms_agree, raised, raised_front, raised_behind, in_order, in_order_at}
+use Rattle.script_formulas.proofs.Transfer.{placed, placed_at, length_placed, AgreeFree, free_known, Fits, free_placed}
+use Rattle.script_formulas.proofs.Transfer.{fits_in_order, fits_placed, agree_raised, agree_to, agree_back}
 
 -- ---- members of two lists, side by side
 
@@ -111,38 +111,34 @@ module _ (numbers : Numbers) (locations : List ℕ) where
   separate_closed P s (c ∷ cs) H closed (inr x) = inr (separate_closed P s cs H closed.1 x)
 
   -- of cases one of which holds, some heap of them does
-  module _ (P : SortedFamily) (Q : Family) (v : Variables) (s t : Stack)
-      (agrees : (own : Stack) (q : ℕ) → Agree v q s own t own) where
+  module _ (P : SortedFamily) (Q : Family) (free : Free) (s t : Stack) (agrees : AgreeFree free s t) where
+    agrees_in : (v : Variables) → v.free ≡ free → AgreeFree v.free s t
+    agrees_in v is = subst (λ f. AgreeFree f s t) (sym is) agrees
+
     pub one_to : (cs : List SymbolicCase) (bs : List SymbolicHeap) (H : SortedCells) → IsTo numbers locations P Q
-        → AreFine 0 cs → AreHeapsOf numbers v cs bs → IsApart H → OneSeparate P s cs H
+        → AreFine 0 cs → AreHeapsOf numbers free cs bs → IsApart H → OneSeparate P s cs H
         → (h : Cells) × Encoded numbers locations H h × OneOf (HeapCaseHolds Q t h) bs
     one_to [] bs H to fine heaps apart one = absurd one
     one_to (c ∷ cs) [] H to fine heaps apart one = absurd heaps
     one_to (c ∷ cs) (b ∷ bs) H to fine heaps apart (inl x) =
-        let r = holds_to P Q v s t x.0 x.0 c b H (agrees x.0 (0 + c.quantified)) to fine.0 heaps.0 apart x.2 x.3 in
-        (r.0, r.1, inl (x.0, r.2))
+        let w = heaps.0 in
+        let e = agree_to w.0 (0 + c.quantified) s t (agrees_in w.0 w.1) w.2 x.0 in
+        let r = holds_to P Q w.0 s t x.0 e.0 c b H e.1 to fine.0 w.3 apart x.2 x.3 in
+        (r.0, r.1, inl (e.0, r.2))
     one_to (c ∷ cs) (b ∷ bs) H to fine heaps apart (inr x) =
         let r = one_to cs bs H to fine.1 heaps.1 apart x in (r.0, r.1, inr r.2)
 
-    -- the first variables alone are those that count
-    agree_first : (e : Stack) (q : ℕ) → Agree v q s (part_of 0 q e) t e
-    agree_first e q = record {
-      free = (agrees e q).free;
-      bound = λ n u less i.
-          let plain : 0 + n ≡ n = omega arith in
-          (agrees e q).bound n u less i ∙ sym (part_at 0 q e n less ∙ ap (λ k. get_or e k 0) plain);
-    }
-
     pub one_back : (cs : List SymbolicCase) (bs : List SymbolicHeap) (h : Cells) → IsBack numbers locations P Q
-        → AreFine 0 cs → AreHeapsOf numbers v cs bs → OneOf (HeapCaseHolds Q t h) bs
+        → AreFine 0 cs → AreHeapsOf numbers free cs bs → OneOf (HeapCaseHolds Q t h) bs
         → (H : SortedCells) × Encoded numbers locations H h × OneCaseHolds locations P s [] cs H
     one_back [] [] h back fine heaps one = absurd one
     one_back [] (b ∷ bs) h back fine heaps one = absurd heaps
     one_back (c ∷ cs) [] h back fine heaps one = absurd heaps
     one_back (c ∷ cs) (b ∷ bs) h back fine heaps (inl x) =
-        let q = 0 + c.quantified in
-        let size : length (part_of 0 q x.0) ≡ c.quantified = length_part 0 q x.0 ∙ omega arith in
-        let r = holds_back P Q v s t (part_of 0 q x.0) x.0 c b h (agree_first x.0 q) size back fine.0 heaps.0 x.1 in
+        let w = heaps.0 in
+        let own = agree_back w.0 (0 + c.quantified) s t (agrees_in w.0 w.1) w.2 x.0 in
+        let size : length own.0 ≡ c.quantified = own.1 ∙ omega arith in
+        let r = holds_back P Q w.0 s t own.0 x.0 c b h own.2 size back fine.0 w.3 x.1 in
         (r.0, r.1, inl r.2)
     one_back (c ∷ cs) (b ∷ bs) h back fine heaps (inr x) =
         let r = one_back cs bs h back fine.1 heaps.1 x in (r.0, r.1, inr r.2)
@@ -189,7 +185,7 @@ module _ (numbers : Numbers) (locations : List ℕ) (predicates : List Predicate
       let one = separate_closed numbers locations P vs by.cases H by.closed
       ((by.staged locations all_bodies n vs H).0 body) in
       let r = one_to numbers locations P Q (Known (length f.2.0.parameters.items)) vs vs
-      (λ e q. agree_known (length f.2.0.parameters.items) q vs e vs (λ i less. refl)) by.cases by.heaps H (stage_to n)
+      (free_known (length f.2.0.parameters.items) vs) by.cases by.heaps H (stage_to n)
       by.fine by.translated apart one in
       let cases = taken_to (HeapCaseHolds Q vs r.0) by.heaps f.0.cases by.taken r.2 in
       (r.0, r.1, subst (OneOf (HeapCaseHolds Q vs r.0)) (sym (cases_found own more k f.0 f.1)) cases)
@@ -206,7 +202,7 @@ module _ (numbers : Numbers) (locations : List ℕ) (predicates : List Predicate
       let heaps = taken_back (HeapCaseHolds Q vs h) by.heaps f.0.cases by.taken
       (impossible_fails Q vs h) cases in
       let r = one_back numbers locations P Q (Known (length f.2.0.parameters.items)) vs vs
-      (λ e q. agree_known (length f.2.0.parameters.items) q vs e vs (λ i less. refl)) by.cases by.heaps h (stage_back n)
+      (free_known (length f.2.0.parameters.items) vs) by.cases by.heaps h (stage_back n)
       by.fine by.translated heaps in
       let body : FormulaHolds locations P vs [] (formula_of f.2.0.body) r.0 =
       (by.staged locations all_bodies n vs r.0).1 r.2 in
@@ -238,20 +234,26 @@ holds_of ds t h a holds =
 
 -- ---- the sides of the goal
 
-univ_values : (t e : Stack) (ns : List ℕ) → values t e (map Univ ns) ≡ map (λ n. get_or t n 0) ns
+univ_values : (t e : Stack) (ns : List ℕ) → values t e (map Univ ns) ≡ in_order ns t
 univ_values t e [] = refl
 univ_values t e (n ∷ ns) = λ i. get_or t n 0 ∷ univ_values t e ns i
 
-listed_free : (v : Variables) (ns : List ℕ) → IsListed v ns → (n : ℕ) (u : Term) → IsFreeOf v n u
-    → (k : ℕ) × IsPlaceOf ns n k × (u ≡ Univ k)
-listed_free (Known most) ns is n u i = absurd is
-listed_free (Raised most) ns is n u i = absurd is
-listed_free (Listed ms) ns is n u i = (i.0, subst (λ l. IsPlaceOf l n i.0) is i.1, i.2)
+-- constants are no quantified variables
+constants_bound : (q : ℕ) (ns : List ℕ) → Each (IsBound q) (map Univ ns)
+constants_bound q [] = tt
+constants_bound q (n ∷ ns) = (tt, constants_bound q ns)
 
-listed_bound : (v : Variables) (ns : List ℕ) → IsListed v ns → (n : ℕ) (u : Term) → IsBoundOf v n u → u ≡ Exist n
-listed_bound (Known most) ns is n u i = absurd is
-listed_bound (Raised most) ns is n u i = absurd is
-listed_bound (Listed ms) ns is n u i = i
+-- the arguments of a call have the values of the constants
+arguments_agree : (v : Variables) (constants : ℕ) (order listed : List ℕ) (arguments : List Term) (s t e : Stack)
+    → ArePlaced v.free constants order → AreTermsOf v (map Univ listed) arguments → Fits constants order s t
+    → values t e arguments ≡ in_order listed s
+arguments_agree v constants order listed arguments s t e placed are fits =
+    let agree : Agree v 0 s [] t e = record {
+      free = free_placed v.free constants order s t placed fits e;
+      bound = λ n u less i. absurd (omega arith);
+    } in
+    terms_agree v 0 s [] t e agree (map Univ listed) arguments (constants_bound 0 listed) are
+    ∙ univ_values s [] listed
 
 last_cases : (before : List Definition) (d : Definition) → cases_of (before ++ d ∷ []) (length before) ≡ d.cases
 last_cases [] d = refl
@@ -263,78 +265,107 @@ empty_right {l = l} {h = h} u e = union_same (union_empty l) (subst (λ g. IsUni
 
 module _ (numbers : Numbers) (locations : List ℕ) (P : SortedFamily) (own ds : List Definition)
     (to : IsTo numbers locations P (least ds)) (back : IsBack numbers locations P (least ds))
-    (constants : ℕ) where
-  -- values of the problem's variables that fit those of the constants
-  abbrev pub Fits : Stack → Stack → Type 0
-  Fits s t = (n : ℕ) → n < constants → get_or t n 0 ≡ get_or s n 0
+    (constants : ℕ) (order : List ℕ) where
+  -- values of the problem's variables that fit those of the constants, and a heap, satisfy the antecedent
+  abbrev pub FitsAntecedent : Stack → SortedCells → SymbolicHeap → Type 0
+  FitsAntecedent s H a = (t : Stack) × (h : Cells) × Fits constants order s t × Encoded numbers locations H h
+      × Satisfies ds t h a
 
-  pub antecedent_to : (cs : List SymbolicCase) (a : SymbolicHeap) (s : Stack) (H : SortedCells) → AreFine 0 cs
-      → IsAntecedent numbers constants cs a own ds → IsApart H → OneSeparate numbers locations P s cs H
-      → (t : Stack) × (h : Cells) × Fits s t × Encoded numbers locations H h × Satisfies ds t h a
-  antecedent_to [] a s H fine is apart one = absurd one
-  antecedent_to (c ∷ []) a s H fine is apart (inr x) = absurd x
-  antecedent_to (c ∷ []) a s H fine is apart (inl x) =
-      let t = raised constants s x.0 in
-      let r = holds_to numbers locations P (least ds) (Raised constants) s t x.0 [] c a H
-      (agree_raised constants (0 + c.quantified) s x.0 []) to fine.0 is.0 apart x.2 x.3 in
-      (t, r.0, raised_front constants s x.0, r.1, satisfies_of ds t [] r.0 a r.2)
-  antecedent_to (c ∷ d ∷ cs) a s H fine is apart one =
-      let v = is.0 in
-      let ns = is.1 in
-      let vs = map (λ n. get_or s n 0) ns in
+  called_to : (cs : List SymbolicCase) (a : SymbolicHeap) (s : Stack) (H : SortedCells) → AreFine 0 cs
+      → IsCallOf numbers constants order cs a own ds → IsApart H → OneSeparate numbers locations P s cs H
+      → FitsAntecedent s H a
+  called_to cs a s H fine is apart one =
+      let vs = in_order is.listed s in
       let k = length own in
-      let r = one_to numbers locations P (least ds) v s vs
-      (λ e q. agree_listed v ns q s e vs (listed_free v ns is.4) (listed_bound v ns is.4) refl)
-      (c ∷ d ∷ cs) is.3 H to fine is.7 apart one in
-      let cases = taken_to (HeapCaseHolds (least ds) vs r.0) is.3 is.2.cases is.8 r.2 in
-      let there : cases_of ds k ≡ is.2.cases = ap (λ l. cases_of l k) is.6 ∙ last_cases own is.2 in
+      let same = fits_in_order constants is.listed s s (λ n less. refl) in
+      let inner = free_placed is.inner constants is.listed s vs is.parameters same in
+      let r = one_to numbers locations P (least ds) is.inner s vs inner cs is.heaps H to fine is.translated apart one in
+      let cases = taken_to (HeapCaseHolds (least ds) vs r.0) is.heaps is.definition.cases is.taken r.2 in
+      let there : cases_of ds k ≡ is.definition.cases = ap (λ l. cases_of l k) is.defined
+      ∙ last_cases own is.definition in
       let holds = least-IsClosed ds k vs r.0 (subst (OneOf (HeapCaseHolds (least ds) vs r.0)) (sym there) cases) in
-      let call : Holds (λ _. least ds) s [] (call_of k ns) r.0 = (
+      let t = in_order order s in
+      let fits = fits_in_order constants order s s (λ n less. refl) in
+      let given = arguments_agree is.outer constants order is.listed is.arguments s t [] is.placed is.are_arguments
+      fits in
+      let call : Holds (λ _. least ds) t [] (call_of k is.arguments) r.0 = (
         tt,
         record {
           part = r.0;
           rest = no_cells;
           union = union_empty r.0;
-          first = subst (λ l. least ds k l r.0) (sym (univ_values s [] ns)) holds;
+          first = subst (λ l. least ds k l r.0) (sym given) holds;
           others = refl;
         },
       ) in (
-        s,
+        t,
         r.0,
-        (λ n less. refl),
+        fits,
         r.1,
-        subst (Satisfies ds s r.0) (sym is.5) (satisfies_of ds s [] r.0 (call_of k ns)
-            call),
+        subst (Satisfies ds t r.0) (sym is.called) (satisfies_of ds t [] r.0 (call_of k is.arguments) call),
       )
 
+  called_back : (cs : List SymbolicCase) (a : SymbolicHeap) (s t : Stack) (h : Cells) → AreFine 0 cs
+      → IsCallOf numbers constants order cs a own ds → Fits constants order s t → Satisfies ds t h a
+      → (H : SortedCells) × Encoded numbers locations H h × OneCaseHolds locations P s [] cs H
+  called_back cs a s t h fine is fits holds =
+      let k = length own in
+      let x = holds_of ds t h (call_of k is.arguments) (subst (Satisfies ds t h) is.called holds) in
+      let vs = in_order is.listed s in
+      let given = arguments_agree is.outer constants order is.listed is.arguments s t x.0 is.placed is.are_arguments
+      fits in
+      let star = x.1.1 in
+      let all : star.part ≡ h = empty_right star.union star.others in
+      let called : least ds k vs h = subst (λ g. least ds k vs g) all
+      (subst (λ l. least ds k l star.part) given star.first) in
+      let there : cases_of ds k ≡ is.definition.cases = ap (λ l. cases_of l k) is.defined
+      ∙ last_cases own is.definition in
+      let cases : OneOf (HeapCaseHolds (least ds) vs h) is.definition.cases =
+      subst (OneOf (HeapCaseHolds (least ds) vs h)) there (least-opens ds k vs h called) in
+      let heaps = taken_back (HeapCaseHolds (least ds) vs h) is.heaps is.definition.cases is.taken
+      (impossible_fails (least ds) vs h) cases in
+      let same = fits_in_order constants is.listed s s (λ n less. refl) in
+      let inner = free_placed is.inner constants is.listed s vs is.parameters same in
+      one_back numbers locations P (least ds) is.inner s vs inner cs is.heaps h back fine is.translated heaps
+
+  pub antecedent_to : (cs : List SymbolicCase) (a : SymbolicHeap) (s : Stack) (H : SortedCells) → AreFine 0 cs
+      → IsAntecedent numbers constants order cs a own ds → IsApart H → OneSeparate numbers locations P s cs H
+      → FitsAntecedent s H a
+  antecedent_to [] a s H fine is apart one = absurd one
+  antecedent_to (c ∷ []) a s H fine is apart (inr x) = absurd x
+  antecedent_to (c ∷ []) a s H fine is apart (inl x) =
+      let v = is.0.0 in
+      let all = raised constants s x.0 in
+      let t = in_order order all in
+      let fits = fits_in_order constants order s all (raised_front constants s x.0) in
+      let agree = agree_raised v (0 + c.quantified) s t (free_placed v.free constants order s t is.0.1 fits) constants
+      order x.0 [] is.0.2
+      (λ n k less first. in_order_at order all (constants + n) k first ∙ raised_behind constants s x.0 n) in
+      let r = holds_to numbers locations P (least ds) v s t x.0 [] c a H agree to fine.0 is.0.3 apart x.2 x.3 in
+      (t, r.0, fits, r.1, satisfies_of ds t [] r.0 a r.2)
+  antecedent_to (c ∷ d ∷ cs) a s H fine is apart one = called_to (c ∷ d ∷ cs) a s H fine is apart one
+
+  -- values of the constants for those of the problem's variables
+  abbrev pub constants_of : Stack → Stack
+  constants_of t = placed order t 0 constants
+
   pub antecedent_back : (cs : List SymbolicCase) (a : SymbolicHeap) (t : Stack) (h : Cells) → AreFine 0 cs
-      → IsAntecedent numbers constants cs a own ds → Satisfies ds t h a
-      → (H : SortedCells) × Encoded numbers locations H h × OneCaseHolds locations P t [] cs H
+      → IsAntecedent numbers constants order cs a own ds → Satisfies ds t h a
+      → (H : SortedCells) × Encoded numbers locations H h × OneCaseHolds locations P (constants_of t) [] cs H
   antecedent_back [] a t h fine is holds =
       let none : Satisfies ds t h impossible = subst (Satisfies ds t h) is.0 holds in
       absurd (impossible_fails (least ds) t h (holds_of ds t h impossible none))
   antecedent_back (c ∷ []) a t h fine is holds =
+      let v = is.0.0 in
       let q = 0 + c.quantified in
+      let s = constants_of t in
+      let own = placed order t constants q in
       let x = holds_of ds t h a holds in
-      let size : length (part_of constants q t) ≡ c.quantified = length_part constants q t ∙ omega arith in
-      let r = holds_back numbers locations P (least ds) (Raised constants) t t (part_of constants q t) x.0 c a h
-      (agree_lowered constants q t x.0) size back fine.0 is.0 x.1 in
+      let size : length own ≡ c.quantified = length_placed order t constants q ∙ omega arith in
+      let free = free_placed v.free constants order s t is.0.1 (fits_placed constants order t) in
+      let agree = agree_raised v q s t free constants order own x.0 is.0.2
+      (λ n k less first. placed_at order t constants q n k less first) in
+      let r = holds_back numbers locations P (least ds) v s t own x.0 c a h agree size back fine.0 is.0.3 x.1 in
       (r.0, r.1, inl r.2)
   antecedent_back (c ∷ d ∷ cs) a t h fine is holds =
-      let v = is.0 in
-      let ns = is.1 in
-      let k = length own in
-      let x = holds_of ds t h (call_of k ns) (subst (Satisfies ds t h) is.5 holds) in
-      let vs = map (λ n. get_or t n 0) ns in
-      let star = x.1.1 in
-      let all : star.part ≡ h = empty_right star.union star.others in
-      let called : least ds k vs h = subst (λ g. least ds k vs g) all
-      (subst (λ l. least ds k l star.part) (univ_values t x.0 ns) star.first) in
-      let there : cases_of ds k ≡ is.2.cases = ap (λ l. cases_of l k) is.6 ∙ last_cases own is.2 in
-      let cases : OneOf (HeapCaseHolds (least ds) vs h) is.2.cases =
-      subst (OneOf (HeapCaseHolds (least ds) vs h)) there (least-opens ds k vs h called) in
-      let heaps = taken_back (HeapCaseHolds (least ds) vs h) is.3 is.2.cases is.8
-      (impossible_fails (least ds) vs h) cases in
-      one_back numbers locations P (least ds) v t vs
-      (λ e q. agree_listed v ns q t e vs (listed_free v ns is.4) (listed_bound v ns is.4) refl)
-      (c ∷ d ∷ cs) is.3 h back fine is.7 heaps
+      called_back (c ∷ d ∷ cs) a (constants_of t) t h fine is (fits_placed constants order t) holds

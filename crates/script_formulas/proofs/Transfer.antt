@@ -1,7 +1,8 @@
 -- What cases say of a heap with sorts, and their symbolic heaps of the same heap without.
 use Rattle.std.proofs.Common.{◌≡◌, ℕ, zero, suc, ◌+◌, ◌<◌, List, [], ◌∷◌, ◌++◌, map, length, get_or}
 use Rattle.std.proofs.Common.{Some, refl, sym, ap, ◌∙◌, subst, arith}
-use Rattle.std.specs.Prelude.{slice_index, replicate}
+use Rattle.std.specs.Prelude.{slice_index, replicate, nat_eq, true, false, if◌then◌else◌}
+use Rattle.std.proofs.lemmas.Bool.{eq-eqb, ne_eqb}
 use Rattle.std.specs.List.{AllZip}
 use Rattle.std.proofs.lemmas.List.{get_or_append_left, get_or-append-add}
 use Rattle.heap_formula.specs.declared.terms.Term.{Term}
@@ -19,13 +20,16 @@ use Rattle.script_formulas.specs.declared.formula.ScriptAtom.{ScriptAtom}
 use Rattle.script_formulas.specs.declared.formula.ScriptAtom.TheVariants.{Cell, Call}
 use Rattle.script_formulas.specs.declared.goals.heaps.Numbers.{Numbers}
 use Rattle.script_formulas.specs.declared.goals.heaps.Variables.{Variables}
-use Rattle.script_formulas.specs.declared.goals.heaps.Variables.TheVariants.{Known, Raised}
+use Rattle.script_formulas.specs.declared.goals.heaps.Free.{Free}
+use Rattle.script_formulas.specs.declared.goals.heaps.Free.TheVariants.{Known, Placed}
+use Rattle.script_formulas.specs.declared.goals.heaps.Quantified.{Quantified}
+use Rattle.script_formulas.specs.declared.goals.heaps.Quantified.TheVariants.{Raised, Local}
 use Rattle.script_formulas.specs.Heaps.{SortedCells, no_sorted_cells, one_sorted_cell}
 use Rattle.script_formulas.specs.Meaning.{SortedFamily, SortedAtomHolds}
 use Rattle.script_formulas.specs.Holding.{SeparateAtomsHold}
 use Rattle.script_formulas.specs.Scope.{IsBound, InAtom}
-use Rattle.script_formulas.specs.Translating.{IsPlaceOf, IsFreeOf, IsBoundOf, IsTermOf, AreTermsOf, AreFilled, IsPureOf}
-use Rattle.script_formulas.specs.Translating.{IsSpatialOf}
+use Rattle.script_formulas.specs.Translating.{IsPlaceOf, IsFirstPlaceOf, IsFree, IsQuantified, IsTermOf, AreTermsOf}
+use Rattle.script_formulas.specs.Translating.{AreFilled, IsPureOf, IsSpatialOf, AreLocal, ArePlaced, AreRaised}
 use Rattle.script_formulas.specs.Spread.{IsApart}
 use Rattle.script_formulas.proofs.Encoding.{IsCoded, Encodes, encodes_none, encodes_one, union_without, union_with}
 use Rattle.script_formulas.proofs.Encoding.{part_apart, rest_apart}
@@ -34,8 +38,8 @@ use Rattle.script_formulas.proofs.Encoding.{part_apart, rest_apart}
 
 -- the variables that are not quantified, and those below q, have the same values on both sides
 pub record Agree (v : Variables) (q : ℕ) (s own t e : Stack) : Type 0 where
-  pub free : (n : ℕ) (u : Term) → IsFreeOf v n u → value t e u ≡ slice_index s n
-  pub bound : (n : ℕ) (u : Term) → n < q → IsBoundOf v n u → value t e u ≡ slice_index own n
+  pub free : (n : ℕ) (u : Term) → IsFree v.free n u → value t e u ≡ slice_index s n
+  pub bound : (n : ℕ) (u : Term) → n < q → IsQuantified v.quantified n u → value t e u ≡ slice_index own n
 
 module _ (v : Variables) (q : ℕ) (s own t e : Stack) (agree : Agree v q s own t e) where
   term_agrees : (x y : Term) → IsBound q x → IsTermOf v x y → value t e y ≡ value s own x
@@ -43,7 +47,7 @@ module _ (v : Variables) (q : ℕ) (s own t e : Stack) (agree : Agree v q s own 
   term_agrees (Univ n) y b i = agree.free n y i
   term_agrees (Exist n) y b i = agree.bound n y b i
 
-  terms_agree : (xs ys : List Term) → Each (IsBound q) xs → AreTermsOf v xs ys → values t e ys ≡ values s own xs
+  pub terms_agree : (xs ys : List Term) → Each (IsBound q) xs → AreTermsOf v xs ys → values t e ys ≡ values s own xs
   terms_agree [] [] b i = refl
   terms_agree [] (y ∷ ys) b i = absurd i
   terms_agree (x ∷ xs) [] b i = absurd i
@@ -247,74 +251,169 @@ module _ (numbers : Numbers) (locations : List ℕ) where
 
 -- ---- values of both sides
 
--- the values of n variables from the m-th on
-pub part_of : ℕ → ℕ → Stack → Stack
-part_of m zero s = []
-part_of m (suc n) s = get_or s m 0 ∷ part_of (suc m) n s
+-- so many values of a function, from the m-th on
+pub values_from : (ℕ → ℕ) → ℕ → ℕ → Stack
+values_from f m zero = []
+values_from f m (suc n) = f m ∷ values_from f (suc m) n
 
-pub length_part : (m n : ℕ) (s : Stack) → length (part_of m n s) ≡ n
-unfolding part_of
-length_part m zero s = refl
-length_part m (suc n) s = let r = length_part (suc m) n s in omega arith
+pub length_from : (f : ℕ → ℕ) (m n : ℕ) → length (values_from f m n) ≡ n
+unfolding values_from
+length_from f m zero = refl
+length_from f m (suc n) = let r = length_from f (suc m) n in omega arith
 
-pub part_at : (m n : ℕ) (s : Stack) (i : ℕ) → i < n → get_or (part_of m n s) i 0 ≡ get_or s (m + i) 0
-unfolding part_of
-part_at m zero s i less = absurd (omega arith)
-part_at m (suc n) s zero less = let e : m ≡ m + 0 = omega arith in ap (λ k. get_or s k 0) e
-part_at m (suc n) s (suc i) less =
+pub from_at : (f : ℕ → ℕ) (m n i : ℕ) → i < n → get_or (values_from f m n) i 0 ≡ f (m + i)
+unfolding values_from
+from_at f m zero i less = absurd (omega arith)
+from_at f m (suc n) zero less = let e : m ≡ m + 0 = omega arith in ap f e
+from_at f m (suc n) (suc i) less =
     let e : suc m + i ≡ m + suc i = omega arith in
-    part_at (suc m) n s i (omega arith) ∙ ap (λ k. get_or s k 0) e
-
-pub agree_known : (most q : ℕ) (s own t : Stack) → ((n : ℕ) → n < most → get_or t n 0 ≡ get_or s n 0)
-    → Agree (Known most) q s own t own
-agree_known most q s own t same = record {
-  free = λ n u i. ap (value t own) i.1 ∙ same n i.0;
-  bound = λ n u less i. ap (value t own) i;
-}
+    from_at f (suc m) n i (omega arith) ∙ ap f e
 
 -- the constants, and behind them the quantified variables
 pub raised : ℕ → Stack → Stack → Stack
-raised most s own = part_of 0 most s ++ own
+raised most s own = values_from (λ n. get_or s n 0) 0 most ++ own
 
 pub raised_front : (most : ℕ) (s own : Stack) (n : ℕ) → n < most → get_or (raised most s own) n 0 ≡ get_or s n 0
 unfolding raised
 raised_front most s own n less =
-    let long = length_part 0 most s in
+    let f : ℕ → ℕ = λ n. get_or s n 0 in
+    let long = length_from f 0 most in
     let same : 0 + n ≡ n = omega arith in
-    get_or_append_left (part_of 0 most s) own 0 n (omega arith) ∙ part_at 0 most s n less
-    ∙ ap (λ k. get_or s k 0) same
+    get_or_append_left (values_from f 0 most) own 0 n (omega arith) ∙ from_at f 0 most n less ∙ ap f same
 
-raised_behind : (most : ℕ) (s own : Stack) (n : ℕ) → get_or (raised most s own) (most + n) 0 ≡ get_or own n 0
+pub raised_behind : (most : ℕ) (s own : Stack) (n : ℕ) → get_or (raised most s own) (most + n) 0 ≡ get_or own n 0
 unfolding raised
 raised_behind most s own n =
-    ap (λ k. get_or (part_of 0 most s ++ own) (k + n) 0) (sym (length_part 0 most s))
-    ∙ get_or-append-add (part_of 0 most s) own n 0
-
-pub agree_raised : (most q : ℕ) (s own e : Stack) → Agree (Raised most) q s own (raised most s own) e
-agree_raised most q s own e = record {
-  free = λ n u i. ap (value (raised most s own) e) i.1 ∙ raised_front most s own n i.0;
-  bound = λ n u less i. ap (value (raised most s own) e) i ∙ raised_behind most s own n;
-}
-
-pub agree_lowered : (most q : ℕ) (t e : Stack) → Agree (Raised most) q t (part_of most q t) t e
-agree_lowered most q t e = record {
-  free = λ n u i. ap (value t e) i.1;
-  bound = λ n u less i. ap (value t e) i ∙ sym (part_at most q t n less);
-}
+    let f : ℕ → ℕ = λ n. get_or s n 0 in
+    ap (λ k. get_or (values_from f 0 most ++ own) (k + n) 0) (sym (length_from f 0 most))
+    ∙ get_or-append-add (values_from f 0 most) own n 0
 
 map_at : (f : ℕ → ℕ) (ns : List ℕ) (k : ℕ) → k < length ns → get_or (map f ns) k 0 ≡ f (get_or ns k 0)
 map_at f [] k less = absurd (omega arith)
 map_at f (n ∷ ns) zero less = refl
 map_at f (n ∷ ns) (suc k) less = map_at f ns k (omega arith)
 
-pub agree_listed : (listed : Variables) (ns : List ℕ) (q : ℕ) (s own vs : Stack)
-    → ((n : ℕ) (u : Term) → IsFreeOf listed n u → (k : ℕ) × IsPlaceOf ns n k × (u ≡ Univ k))
-    → ((n : ℕ) (u : Term) → IsBoundOf listed n u → u ≡ Exist n)
-    → vs ≡ map (λ n. get_or s n 0) ns → Agree listed q s own vs own
-agree_listed listed ns q s own vs free bound is = record {
-  free = λ n u i.
-      let f = free n u i in
-      ap (value vs own) f.2 ∙ ap (λ l. get_or l f.0 0) is ∙ map_at (λ n. get_or s n 0) ns f.0 f.1.0
-      ∙ ap (λ n. get_or s n 0) f.1.1;
-  bound = λ n u less i. ap (value vs own) (bound n u i);
-}
+-- ---- values by places in an order
+
+-- the values of the variables that an order lists
+abbrev pub in_order : List ℕ → Stack → Stack
+in_order ns s = map (λ n. get_or s n 0) ns
+
+pub in_order_at : (ns : List ℕ) (s : Stack) (n k : ℕ) → IsFirstPlaceOf ns n k
+    → get_or (in_order ns s) k 0 ≡ get_or s n 0
+in_order_at ns s n k first = map_at (λ m. get_or s m 0) ns k first.place.0 ∙ ap (λ m. get_or s m 0) first.place.1
+
+-- the value of a variable, of values in an order from the j-th on
+out_of_order : List ℕ → Stack → ℕ → ℕ → ℕ
+out_of_order [] t j n = 0
+out_of_order (m ∷ ns) t j n = if nat_eq m n then get_or t j 0 else out_of_order ns t (suc j) n
+
+out_at : (ns : List ℕ) (t : Stack) (j n k : ℕ) → IsFirstPlaceOf ns n k → out_of_order ns t j n ≡ get_or t (j + k) 0
+unfolding out_of_order
+out_at [] t j n k first = let less = first.place.0 in absurd (omega arith)
+out_at (m ∷ ns) t j n zero first =
+    let same : nat_eq m n ≡ true = eq-eqb m n first.place.1 in
+    let e : j ≡ j + 0 = omega arith in
+    rw same (ap (λ i. get_or t i 0) e)
+out_at (m ∷ ns) t j n (suc k) first =
+    let other : nat_eq m n ≡ false = ne_eqb m n (first.first 0 (omega arith)) in
+    let less = first.place.0 in
+    let e : suc j + k ≡ j + suc k = omega arith in
+    let later : IsFirstPlaceOf ns n k = record {
+      place = (omega arith, first.place.1);
+      first = λ i below. first.first (suc i) (omega arith);
+    } in
+    rw other (out_at ns t (suc j) n k later ∙ ap (λ i. get_or t i 0) e)
+
+-- so many values of variables, from the m-th on
+pub placed : List ℕ → Stack → ℕ → ℕ → Stack
+placed ns t m count = values_from (out_of_order ns t 0) m count
+
+pub length_placed : (ns : List ℕ) (t : Stack) (m count : ℕ) → length (placed ns t m count) ≡ count
+unfolding placed
+length_placed ns t m count = length_from (out_of_order ns t 0) m count
+
+pub placed_at : (ns : List ℕ) (t : Stack) (m count n k : ℕ) → n < count → IsFirstPlaceOf ns (m + n) k
+    → get_or t k 0 ≡ get_or (placed ns t m count) n 0
+unfolding placed
+placed_at ns t m count n k less first =
+    let e : 0 + k ≡ k = omega arith in
+    sym (from_at (out_of_order ns t 0) m count n less ∙ out_at ns t 0 (m + n) k first ∙ ap (λ i. get_or t i 0) e)
+
+-- ---- values that agree
+
+-- the variables that are not quantified have the same values on both sides
+abbrev pub AgreeFree : Free → Stack → Stack → Type 0
+AgreeFree free s t = (e : Stack) (n : ℕ) (u : Term) → IsFree free n u → value t e u ≡ slice_index s n
+
+pub free_known : (most : ℕ) (s : Stack) → AgreeFree (Known most) s s
+free_known most s e n u i = ap (value s e) i.1
+
+-- the values of the constants are those of their places
+abbrev pub Fits : ℕ → List ℕ → Stack → Stack → Type 0
+Fits constants order s t = (n k : ℕ) → n < constants → IsFirstPlaceOf order n k → get_or t k 0 ≡ get_or s n 0
+
+pub free_placed : (free : Free) (constants : ℕ) (order : List ℕ) (s t : Stack) → ArePlaced free constants order
+    → Fits constants order s t → AgreeFree free s t
+free_placed (Known most) constants order s t is fits e n u i = absurd is
+free_placed (Placed most ns) constants order s t is fits e n u i =
+    let place = subst (λ l. IsFirstPlaceOf l n i.1.0) is.1 i.1.1 in
+    ap (value t e) i.1.2 ∙ fits n i.1.0 (subst (λ m. n < m) is.0 i.0) place
+
+pub fits_in_order : (constants : ℕ) (order : List ℕ) (s r : Stack)
+    → ((n : ℕ) → n < constants → get_or r n 0 ≡ get_or s n 0) → Fits constants order s (in_order order r)
+fits_in_order constants order s r same n k less first = in_order_at order r n k first ∙ same n less
+
+pub fits_placed : (constants : ℕ) (order : List ℕ) (t : Stack) → Fits constants order (placed order t 0 constants) t
+fits_placed constants order t n k less first =
+    let e : n ≡ 0 + n = omega arith in
+    placed_at order t 0 constants n k less (subst (λ m. IsFirstPlaceOf order m k) e first)
+
+module _ (v : Variables) (q : ℕ) (s t : Stack) (free : AgreeFree v.free s t) where
+  -- where the quantified variables come behind the constants
+  pub agree_raised : (constants : ℕ) (order : List ℕ) (own e : Stack) → AreRaised v.quantified constants order
+      → ((n k : ℕ) → n < q → IsFirstPlaceOf order (constants + n) k → get_or t k 0 ≡ get_or own n 0)
+      → Agree v q s own t e
+  agree_raised constants order own e is same =
+      record { free = free e; bound = λ n u less i. by_places v.quantified is n u less i }
+    where
+      by_places : (w : Quantified) → AreRaised w constants order → (n : ℕ) (u : Term) → n < q → IsQuantified w n u
+          → value t e u ≡ slice_index own n
+      by_places (Raised most ns) is n u less i =
+          let place = subst (λ l. IsFirstPlaceOf l (constants + n) i.0) is.1
+          (subst (λ m. IsFirstPlaceOf ns.now (m + n) i.0) is.0 i.1) in
+          ap (value t e) i.2 ∙ same n i.0 less place
+      by_places (Local ns) is n u less i = absurd is
+
+  -- the numbers of local variables
+  abbrev order_of : Quantified → List ℕ
+  order_of (Raised most ns) = []
+  order_of (Local ns) = ns.now
+
+  local_by : (own e : Stack) → AreLocal v.quantified
+      → ((n k : ℕ) → n < q → IsFirstPlaceOf (order_of v.quantified) n k → get_or e k 0 ≡ get_or own n 0)
+      → Agree v q s own t e
+  local_by own e is same = record { free = free e; bound = λ n u less i. by_places v.quantified is same n u less i }
+    where
+      by_places : (w : Quantified) → AreLocal w
+          → ((n k : ℕ) → n < q → IsFirstPlaceOf (order_of w) n k → get_or e k 0 ≡ get_or own n 0)
+          → (n : ℕ) (u : Term) → n < q → IsQuantified w n u → value t e u ≡ slice_index own n
+      by_places (Raised most ns) is same n u less i = absurd is
+      by_places (Local ns) is same n u less i = ap (value t e) i.2 ∙ same n i.0 less i.1
+
+  -- values of the case's own variables, and those of the problem's
+  pub agree_to : AreLocal v.quantified → (own : Stack) → (e : Stack) × Agree v q s own t e
+  agree_to is own =
+      let order = order_of v.quantified in
+      (in_order order own, local_by own (in_order order own) is (λ n k less first. in_order_at order own n k first))
+
+  pub agree_back : AreLocal v.quantified → (e : Stack) → (own : Stack) × (length own ≡ q) × Agree v q s own t e
+  agree_back is e =
+      let order = order_of v.quantified in
+      let own = placed order e 0 q in (
+        own,
+        length_placed order e 0 q,
+        local_by own e is (λ n k less first.
+            let same : n ≡ 0 + n = omega arith in
+            placed_at order e 0 q n k less (subst (λ m. IsFirstPlaceOf order m k) same first)),
+      )

@@ -1,6 +1,7 @@
 -- The goal and the definitions that a script becomes.
 use Rattle.std.specs.Prelude.{◌≡◌, ◌≢◌, ℕ, List, [], ◌∷◌, ◌++◌, map, length, slice_get, Some}
 use Rattle.std.specs.List.{AllZip}
+use Rattle.heap_formula.specs.declared.terms.Term.{Term}
 use Rattle.heap_formula.specs.declared.terms.Term.TheVariants.{Univ}
 use Rattle.heap_formula.specs.declared.atoms.Spatial.TheVariants.{Pred}
 use Rattle.heap_formula.specs.declared.judgements.Judgement.{Judgement}
@@ -11,7 +12,8 @@ use Rattle.script_formulas.specs.declared.script.Script.{Script}
 use Rattle.script_formulas.specs.declared.script.Predicate.{Predicate}
 use Rattle.script_formulas.specs.declared.goals.heaps.Numbers.{Numbers}
 use Rattle.script_formulas.specs.declared.goals.heaps.Variables.{Variables}
-use Rattle.script_formulas.specs.declared.goals.heaps.Variables.TheVariants.{Known, Raised, Listed}
+use Rattle.script_formulas.specs.declared.goals.heaps.Free.{Free}
+use Rattle.script_formulas.specs.declared.goals.heaps.Free.TheVariants.{Known}
 use Rattle.script_formulas.specs.declared.goals.question.Question.{Question}
 use Rattle.script_formulas.specs.declared.goals.question.Question.TheVariants.{Entailment, Satisfiability}
 use Rattle.script_formulas.specs.Cases.{SymbolicCase}
@@ -20,7 +22,8 @@ use Rattle.script_formulas.specs.Holding.{IsDisjunctiveForm, IsStagedForm}
 use Rattle.script_formulas.specs.Scope.{AreFine}
 use Rattle.script_formulas.specs.Sorts.{IsSorted}
 use Rattle.script_formulas.specs.Sides.{AreSides, AreDenied, ClosedCases}
-use Rattle.script_formulas.specs.Translating.{IsHeapOf, AreHeapsOf, AreDisjuncts, AreToldApart, impossible}
+use Rattle.script_formulas.specs.Translating.{AreTermsOf, IsHeapOf, AreHeapsOf, ArePlaced, AreRaised, AreDisjuncts}
+use Rattle.script_formulas.specs.Translating.{AreToldApart, impossible}
 
 -- the cases of a definition for these heaps: one that never holds where there are none
 abbrev pub AreCasesOf : List SymbolicHeap → List SymbolicHeap → Type 0
@@ -62,35 +65,52 @@ AreDefinedIn predicates numbers ps ds = AllZip (IsDefinedIn predicates numbers) 
 
 -- ---- the goal
 
-abbrev pub IsListed : Variables → List ℕ → Type 0
-IsListed (Known most) listed = ⊥
-IsListed (Raised most) listed = ⊥
-IsListed (Listed ns) listed = ns.now ≡ listed
+-- a call of a predicate
+abbrev pub call_of : ℕ → List Term → SymbolicHeap
+call_of p ts = record { pure = []; spatial = Pred p ts ∷ [] }
 
--- a call of a predicate with these constants
-abbrev pub call_of : ℕ → List ℕ → SymbolicHeap
-call_of p listed = record { pure = []; spatial = Pred p (map Univ listed) ∷ [] }
+-- a definition behind others has the cases, and the heap calls it with the constants that occur in them; those have
+-- their places in the order for numbers
+pub record IsCallOf (numbers : Numbers) (constants : ℕ) (order : List ℕ) (cs : List SymbolicCase) (h : SymbolicHeap)
+    (before ds : List Definition) : Type 0 where
+  pub listed : List ℕ
+  pub arguments : List Term
+  pub outer : Variables
+  pub placed : ArePlaced outer.free constants order
+  pub are_arguments : AreTermsOf outer (map Univ listed) arguments
+  pub called : h ≡ call_of (length before) arguments
+  pub inner : Free
+  pub parameters : ArePlaced inner constants listed
+  pub heaps : List SymbolicHeap
+  pub translated : AreHeapsOf numbers inner cs heaps
+  pub definition : Definition
+  pub taken : AreCasesOf heaps definition.cases
+  pub defined : ds ≡ before ++ definition ∷ []
 
--- a definition behind others has the cases, and the heap calls it with the constants that occur in them
-abbrev pub IsCallOf : Numbers → List SymbolicCase → SymbolicHeap → List Definition → List Definition → Type 0
-IsCallOf numbers cs h before ds = (v : Variables) × (listed : List ℕ) × (d : Definition) × (heaps : List SymbolicHeap)
-    × IsListed v listed × (h ≡ call_of (length before) listed) × (ds ≡ before ++ d ∷ [])
-    × AreHeapsOf numbers v cs heaps × AreCasesOf heaps d.cases
+-- the only case as a heap whose quantified variables come behind the constants
+abbrev pub IsRaisedOf : Numbers → ℕ → List ℕ → SymbolicCase → SymbolicHeap → Type 0
+IsRaisedOf numbers constants order c h = (v : Variables) × ArePlaced v.free constants order
+    × AreRaised v.quantified constants order × IsHeapOf numbers v c h
 
 -- the antecedent for the cases, where there are these constants, and the definitions before and with what it calls: one
 -- that never holds, the only case with its quantified variables as constants, or a call of a predicate that has the
 -- cases
-abbrev pub IsAntecedent : Numbers → ℕ → List SymbolicCase → SymbolicHeap → List Definition → List Definition → Type 0
-IsAntecedent numbers constants [] h before ds = (h ≡ impossible) × (ds ≡ before)
-IsAntecedent numbers constants (c ∷ []) h before ds = IsHeapOf numbers (Raised constants) c h × (ds ≡ before)
-IsAntecedent numbers constants (c ∷ d ∷ cs) h before ds = IsCallOf numbers (c ∷ d ∷ cs) h before ds
+abbrev pub IsAntecedent : Numbers → ℕ → List ℕ → List SymbolicCase → SymbolicHeap → List Definition
+    → List Definition → Type 0
+IsAntecedent numbers constants order [] h before ds = (h ≡ impossible) × (ds ≡ before)
+IsAntecedent numbers constants order (c ∷ []) h before ds = IsRaisedOf numbers constants order c h × (ds ≡ before)
+IsAntecedent numbers constants order (c ∷ d ∷ cs) h before ds =
+    IsCallOf numbers constants order (c ∷ d ∷ cs) h before ds
 
--- both sides of the goal, for the cases of both
-abbrev pub IsJudgement : Numbers → ℕ → List SymbolicCase → List SymbolicCase → List Definition → List Definition
-    → Judgement → Type 0
-IsJudgement numbers constants first second before ds goal = (antecedent : SymbolicHeap)
-    × (disjuncts : List SymbolicHeap) × IsAntecedent numbers constants first antecedent before ds
-    × AreDisjuncts numbers constants second disjuncts × (goal ≡ Entail antecedent disjuncts)
+-- both sides of the goal, for the cases of both. A constant has its place in the order for a number, and so has a
+-- quantified variable of the only first case, whose number comes behind the constants
+pub record IsJudgement (numbers : Numbers) (constants : ℕ) (order : List ℕ) (first second : List SymbolicCase)
+    (before ds : List Definition) (goal : Judgement) : Type 0 where
+  pub left : SymbolicHeap
+  pub right : List SymbolicHeap
+  pub antecedent : IsAntecedent numbers constants order first left before ds
+  pub disjuncts : AreDisjuncts numbers constants order second right
+  pub is : goal ≡ Entail left right
 
 -- an entailment is asked where something that speaks of the heap is denied, and then all cases on the left speak of it
 abbrev pub IsAsked : Question → List SymbolicCase → List SymbolicCase → Type 0
@@ -114,4 +134,5 @@ pub record IsGoalOf (script : Script) (question : Question) (ds : List Definitio
   pub used : predicates ≡ numbers.predicates.items
   pub asked : IsAsked question first second
   pub defined : AreDefinedIn script.predicates.items numbers numbers.predicates.items own
-  pub judged : IsJudgement numbers (length script.constants.items) first second own ds goal
+  pub order : List ℕ
+  pub judged : IsJudgement numbers (length script.constants.items) order first second own ds goal

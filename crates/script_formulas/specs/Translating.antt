@@ -1,5 +1,5 @@
 -- Cases of a script as symbolic heaps of its problem.
-use Rattle.std.specs.Prelude.{◌≡◌, ℕ, ◌+◌, ◌<◌, List, [], ◌∷◌, ◌++◌, length, slice_index, slice_index_or, replicate}
+use Rattle.std.specs.Prelude.{◌≡◌, ◌≢◌, ℕ, ◌+◌, ◌<◌, List, [], ◌∷◌, ◌++◌, length, slice_index, slice_index_or, replicate}
 use Rattle.std.specs.Prelude.{Bool, true, false}
 use Rattle.std.specs.List.{AllZip}
 use Rattle.heap_formula.specs.declared.terms.Term.{Term}
@@ -13,29 +13,35 @@ use Rattle.script_formulas.specs.declared.formula.ScriptAtom.{ScriptAtom}
 use Rattle.script_formulas.specs.declared.formula.ScriptAtom.TheVariants.{Cell, Call}
 use Rattle.script_formulas.specs.declared.goals.heaps.Numbers.{Numbers}
 use Rattle.script_formulas.specs.declared.goals.heaps.Variables.{Variables}
-use Rattle.script_formulas.specs.declared.goals.heaps.Variables.TheVariants.{Known, Raised, Listed}
+use Rattle.script_formulas.specs.declared.goals.heaps.Free.{Free}
+use Rattle.script_formulas.specs.declared.goals.heaps.Free.TheVariants.{Known, Placed}
+use Rattle.script_formulas.specs.declared.goals.heaps.Quantified.{Quantified}
+use Rattle.script_formulas.specs.declared.goals.heaps.Quantified.TheVariants.{Raised, Local}
 use Rattle.script_formulas.specs.Cases.{SymbolicCase}
 
 -- n stands at place k of the list
 abbrev pub IsPlaceOf : List ℕ → ℕ → ℕ → Type 0
 IsPlaceOf ns n k = (k < length ns) × (slice_index ns k ≡ n)
 
+-- and at no place before
+pub record IsFirstPlaceOf (ns : List ℕ) (n k : ℕ) : Type 0 where
+  pub place : IsPlaceOf ns n k
+  pub first : (i : ℕ) → i < k → slice_index ns i ≢ n
+
 -- a variable that is not quantified, as a term of the problem
-abbrev pub IsFreeOf : Variables → ℕ → Term → Type 0
-IsFreeOf (Known most) n u = (n < most) × (u ≡ Univ n)
-IsFreeOf (Raised most) n u = (n < most) × (u ≡ Univ n)
-IsFreeOf (Listed ns) n u = (k : ℕ) × IsPlaceOf ns.now n k × (u ≡ Univ k)
+abbrev pub IsFree : Free → ℕ → Term → Type 0
+IsFree (Known most) n u = (n < most) × (u ≡ Univ n)
+IsFree (Placed most ns) n u = (n < most) × ((k : ℕ) × IsFirstPlaceOf ns.now n k × (u ≡ Univ k))
 
 -- a quantified one
-abbrev pub IsBoundOf : Variables → ℕ → Term → Type 0
-IsBoundOf (Known most) n u = u ≡ Exist n
-IsBoundOf (Raised most) n u = u ≡ Univ (most + n)
-IsBoundOf (Listed ns) n u = u ≡ Exist n
+abbrev pub IsQuantified : Quantified → ℕ → Term → Type 0
+IsQuantified (Raised most ns) n u = (k : ℕ) × IsFirstPlaceOf ns.now (most + n) k × (u ≡ Univ k)
+IsQuantified (Local ns) n u = (k : ℕ) × IsFirstPlaceOf ns.now n k × (u ≡ Exist k)
 
 abbrev pub IsTermOf : Variables → Term → Term → Type 0
 IsTermOf v Nil u = u ≡ Nil
-IsTermOf v (Univ n) u = IsFreeOf v n u
-IsTermOf v (Exist n) u = IsBoundOf v n u
+IsTermOf v (Univ n) u = IsFree v.free n u
+IsTermOf v (Exist n) u = IsQuantified v.quantified n u
 
 abbrev pub AreTermsOf : Variables → List Term → List Term → Type 0
 AreTermsOf v ts us = AllZip (IsTermOf v) ts us
@@ -60,17 +66,37 @@ IsSpatialOf numbers v (Call p ts) y = (k : ℕ) × (xs : List Term) × IsPlaceOf
 abbrev pub IsHeapOf : Numbers → Variables → SymbolicCase → SymbolicHeap → Type 0
 IsHeapOf numbers v c h = AllZip (IsPureOf v) c.pure h.pure × AllZip (IsSpatialOf numbers v) c.atoms h.spatial
 
-abbrev pub AreHeapsOf : Numbers → Variables → List SymbolicCase → List SymbolicHeap → Type 0
-AreHeapsOf numbers v cs hs = AllZip (IsHeapOf numbers v) cs hs
+-- the quantified variables stay ones
+abbrev pub AreLocal : Quantified → Type 0
+AreLocal (Raised most ns) = ⊥
+AreLocal (Local ns) = Unit {0}
+
+-- each case as a heap, with numbers of its own for its quantified variables
+abbrev pub IsCaseOf : Numbers → Free → SymbolicCase → SymbolicHeap → Type 0
+IsCaseOf numbers free c h = (v : Variables) × (v.free ≡ free) × AreLocal v.quantified × IsHeapOf numbers v c h
+
+abbrev pub AreHeapsOf : Numbers → Free → List SymbolicCase → List SymbolicHeap → Type 0
+AreHeapsOf numbers free cs hs = AllZip (IsCaseOf numbers free) cs hs
 
 -- the heap of nothing
 abbrev pub impossible : SymbolicHeap
 impossible = record { pure = Neq Nil Nil ∷ []; spatial = [] }
 
+-- the constants below a number have their places in this list for numbers
+abbrev pub ArePlaced : Free → ℕ → List ℕ → Type 0
+ArePlaced (Known most) constants order = ⊥
+ArePlaced (Placed most ns) constants order = (most ≡ constants) × (ns.now ≡ order)
+
+-- so do the quantified variables, whose numbers begin behind them
+abbrev pub AreRaised : Quantified → ℕ → List ℕ → Type 0
+AreRaised (Raised most ns) constants order = (most ≡ constants) × (ns.now ≡ order)
+AreRaised (Local ns) constants order = ⊥
+
 -- a disjunct for each case, or one that never holds
-abbrev pub AreDisjuncts : Numbers → ℕ → List SymbolicCase → List SymbolicHeap → Type 0
-AreDisjuncts numbers constants [] hs = hs ≡ impossible ∷ []
-AreDisjuncts numbers constants (c ∷ cs) hs = AreHeapsOf numbers (Known constants) (c ∷ cs) hs
+abbrev pub AreDisjuncts : Numbers → ℕ → List ℕ → List SymbolicCase → List SymbolicHeap → Type 0
+AreDisjuncts numbers constants order [] hs = hs ≡ impossible ∷ []
+AreDisjuncts numbers constants order (c ∷ cs) hs = (free : Free) × ArePlaced free constants order
+    × AreHeapsOf numbers free (c ∷ cs) hs
 
 -- no two constructors have one width, but for 0, that of those that do not occur
 abbrev pub AreToldApart : List ℕ → Type 0

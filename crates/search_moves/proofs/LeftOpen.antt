@@ -1,7 +1,7 @@
 -- Rules that leave premises, and lists of such rules.
 use Rattle.std.proofs.Common.{◌≡◌, ℕ, zero, suc, ◌+◌, Bool, true, false, List, [], ◌∷◌, ◌++◌, map, length, Option, Some}
 use Rattle.std.proofs.Common.{None, slice_get, refl, sym, ap, subst, ◌∙◌, arith}
-use Rattle.std.specs.Prelude.{nat_lt, nat_eq, max, if◌then◌else◌, Ok}
+use Rattle.std.specs.Prelude.{nat_lt, nat_eq, max, if◌then◌else◌, not, Ok}
 use Rattle.std.specs.List.{filter, list_all}
 use Rattle.std.proofs.lemmas.Bool.{both_ways, and_parts}
 use Rattle.cyc_basics.specs.declared.limits.Limits.{Limits}
@@ -22,6 +22,7 @@ use Rattle.heap_formula.specs.declared.proof_rules.Rule.TheVariants.{Absurd, Rew
 use Rattle.heap_formula.specs.declared.proof_rules.Rule.TheVariants.{Cut, Done, Choose, PureRight, Instantiate, Frame}
 use Rattle.heap_formula.specs.declared.proof_rules.Rule.TheVariants.{UnfoldRight, Exec, Drop}
 use Rattle.heap_formula.specs.Symbolic.{SymbolicHeap}
+use Rattle.heap_formula.specs.Programs.{has_ends}
 use Rattle.heap_formula.specs.Judgements.{antecedent}
 use Rattle.heap_formula.specs.Meaning.{cases_of}
 use Rattle.heap_formula.specs.Fresh.{heap_bound, heap_exists, fresh_number}
@@ -142,7 +143,9 @@ module _ (t : Theory) (j : Judgement) where
       (λ case at'. limited_some t.most (with_right a (unfolded b k (in_heap (right_term ts (heap_exists b)) case)
       ∷ [])) []))))
   left_open Exec h = absurd (both_ways false refl h)
-  left_open (Drop k) h = runs_some j _ (λ i a. finds_some (slice_get a.spatial k) _ _ (λ x at. refl))
+  left_open (Drop k) h =
+      needs_some (not (has_ends t.lines)) _ _
+      (runs_some j _ (λ i a. finds_some (slice_get a.spatial k) _ _ (λ x at. refl)))
 
 -- ---- lists
 
@@ -278,7 +281,8 @@ module _ (t : Theory) (j : Judgement) where
           or_else_all Open (first_that (is_applicable t j) equations)
           (or_else (first_that (is_applicable t j) fields) (or_else (first_that (is_applicable t j) frames) last))
           (first_open equations (instances_open (equation_instances b.pure)))
-          (or_else_all Open (first_that (is_applicable t j) fields) (or_else (first_that (is_applicable t j) frames) last)
+          (or_else_all Open (first_that (is_applicable t j) fields)
+          (or_else (first_that (is_applicable t j) frames) last)
           (first_open fields (instances_open (field_instances a.spatial b.spatial)))
           (or_else_all Open (first_that (is_applicable t j) frames) last
           (first_open frames (each_from_all Open (λ i x. frames_if b.spatial i (is_predicate x)) 0 a.spatial
@@ -302,7 +306,8 @@ module _ (t : Theory) (j : Judgement) where
           or_else_all Open (first_that (is_applicable t j) pures)
           (or_else (first_that (is_applicable t j) apart) (or_else (first_that (is_applicable t j) frames) rest))
           (first_open pures (pures_open b.pure))
-          (or_else_all Open (first_that (is_applicable t j) apart) (or_else (first_that (is_applicable t j) frames) rest)
+          (or_else_all Open (first_that (is_applicable t j) apart)
+          (or_else (first_that (is_applicable t j) frames) rest)
           (first_open apart (distincts_open a.spatial b.pure))
           (or_else_all Open (first_that (is_applicable t j) frames) rest
           (first_open frames (each_from_all Open (λ i x. frames_if b.spatial i (is_cell x)) 0 a.spatial

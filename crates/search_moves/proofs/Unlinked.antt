@@ -14,14 +14,14 @@ use Rattle.heap_formula.specs.declared.judgements.Judgement.{Judgement}
 use Rattle.heap_formula.specs.declared.judgements.Judgement.TheVariants.{Entail, Term as Runs}
 use Rattle.heap_formula.specs.declared.proof_rules.Link.{Link}
 use Rattle.rule_table.specs.LinkTable.{parts_fault, link_fault}
-use Rattle.rule_table.specs.RuleBook.{variables_of}
+use Rattle.rule_table.specs.RuleBook.{variables_of, leaves_nothing}
 use Rattle.rule_table.proofs.LinkRule.{parts_are}
 use Rattle.rule_table.proofs.LinkRuns.{all_chosen}
 use Rattle.rule_table.proofs.Links.{length_left}
 use Rattle.back_links.specs.Listing.{candidates, links}
 use Rattle.search_moves.specs.Nodes.{MadeNode, judgement_of}
 use Rattle.search_moves.specs.Lengths.{is_as_long}
-use Rattle.search_moves.specs.Offering.{is_companion, links_to}
+use Rattle.search_moves.specs.Offering.{is_companion, links_to, whole_links}
 use Rattle.cyc_basics.proofs.Options.{none_is}
 
 as_long : (a : SymbolicHeap) (bs : List SymbolicHeap) (b : SymbolicHeap) (cs : List SymbolicHeap) (link : Link)
@@ -59,6 +59,10 @@ none_to most lines j v node e = by (is_companion j node)
     none zero = refl
     none (suc n) = refl
 
-    by : (b : Bool) → (if b then take most (links j (judgement_of node) v (variables_of lines j)) else []) ≡ []
-    by true = ap (take most) (unlinked j (judgement_of node) v (variables_of lines j) e) ∙ none most
+    whole : (b : Bool) → (if b then take most (links j (judgement_of node) v (variables_of lines j)) else []) ≡ []
+    whole true = ap (take most) (unlinked j (judgement_of node) v (variables_of lines j) e) ∙ none most
+    whole false = refl
+
+    by : (b : Bool) → (if b then whole_links most lines j v (judgement_of node) else []) ≡ []
+    by true = whole (leaves_nothing lines j (judgement_of node))
     by false = refl

@@ -1,5 +1,5 @@
 -- Which rules leave nothing to be shown.
-use Rattle.std.specs.Prelude.{◌≡◌, List, [], ◌∷◌, length, Bool, true, false, nat_lt, Option, Some, None, slice_get}
+use Rattle.std.specs.Prelude.{ℕ, ◌≡◌, List, [], ◌∷◌, length, Bool, true, false, nat_lt, Option, Some, None, slice_get}
 use Rattle.std.specs.Prelude.{Ok, Err}
 use Rattle.std.specs.List.{filter}
 use Rattle.heap_formula.specs.declared.atoms.Spatial.{Spatial}
@@ -15,8 +15,10 @@ use Rattle.heap_formula.specs.Meaning.{cases_of}
 use Rattle.rule_table.specs.Answer.{Answer}
 use Rattle.rule_table.specs.RuleBook.{rule_answer}
 use Rattle.search_moves.specs.Trying.{Theory}
+use Rattle.search_moves.specs.declared.setting.GoalSetting.{GoalSetting}
+use Rattle.search_moves.specs.Settings.{theory_of}
 use Rattle.search_moves.specs.Nodes.{OpenGoal, MadeNode}
-use Rattle.search_moves.specs.Offering.{rules_offered}
+use Rattle.search_moves.specs.Offering.{rules_behind, rules_offered}
 
 abbrev pub has_no_premise : Answer → Bool
 has_no_premise (Ok []) = true
@@ -65,6 +67,14 @@ CloseAlike t j rules rules' = filter (closes t j) rules ≡ filter (closes t j) 
 -- some of the rules that are offered, in their order
 abbrev pub IsPart : List Rule → List Rule → Type 0
 IsPart rules offered = (kept : Rule → Bool) × (rules ≡ filter kept offered)
+
+-- these rules come where no link is admitted, but for some that leave premises; node v is above the goal
+abbrev pub BehindClosing : GoalSetting → List MadeNode → ℕ → List Rule → Type 0
+BehindClosing at nodes v rules = CloseAlike (theory_of at) at.judgement.now rules (rules_behind at nodes v)
+
+-- each of these rules comes there, and in their order
+abbrev pub BehindPart : GoalSetting → List MadeNode → ℕ → List Rule → Type 0
+BehindPart at nodes v rules = IsPart rules (rules_behind at nodes v)
 
 -- these rules are offered to the goal, but for some that leave premises
 abbrev pub OffersClosing : Theory → List MadeNode → OpenGoal → List Rule → Type 0

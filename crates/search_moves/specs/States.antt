@@ -10,7 +10,7 @@ use Rattle.heap_formula.specs.declared.atoms.Spatial.{Spatial}
 use Rattle.heap_formula.specs.declared.atoms.Spatial.TheVariants.{Cell, Pred}
 use Rattle.heap_formula.specs.declared.commands.Command.{Command}
 use Rattle.heap_formula.specs.declared.commands.Command.TheVariants.{Assign, Load, Store, New, Free, IfEq, IfNeq, IfAny}
-use Rattle.heap_formula.specs.declared.commands.Command.TheVariants.{Goto, Stop}
+use Rattle.heap_formula.specs.declared.commands.Command.TheVariants.{Goto, Stop, Ends}
 use Rattle.heap_formula.specs.declared.judgements.Judgement.{Judgement}
 use Rattle.heap_formula.specs.declared.judgements.Judgement.TheVariants.{Entail, Term as Runs}
 use Rattle.heap_formula.specs.declared.proof_rules.Side.{Side}
@@ -83,8 +83,10 @@ state_rewrites p a = first_place (state_rewrite p a) a.pure
 
 -- ---- commands
 
+-- `stop`, with an end or without
 abbrev pub is_stop : Option Command → Bool
 is_stop (Some Stop) = true
+is_stop (Some (Ends bs)) = true
 is_stop (Some (Assign x t)) = false
 is_stop (Some (Load x t k)) = false
 is_stop (Some (Store t k u)) = false
@@ -111,6 +113,7 @@ wanted_cell (Some (IfNeq t u i)) = None
 wanted_cell (Some (IfAny i)) = None
 wanted_cell (Some (Goto i)) = None
 wanted_cell (Some Stop) = None
+wanted_cell (Some (Ends bs)) = None
 wanted_cell None = None
 
 -- the predicate has an argument that is the term or stands with it in an equation

@@ -1,7 +1,7 @@
 // The links to be tried at a goal.
 ghost use Rattle.std.specs.Prelude.{◌≡◌, ◌<◌, ◌++◌, true, IfOk, OnOk, length};
 ghost use Rattle.search_moves.specs.Lengths.{is_as_long as has_length_of};
-ghost use Rattle.search_moves.specs.Offering.{is_companion as is_companion_of, links_to as links_to_node};
+ghost use Rattle.search_moves.specs.Offering.{is_companion as is_companion_of, tried_links};
 ghost use Rattle.search_moves.specs.Offering.{candidates as candidates_of};
 
 use crate::ways::{unfolds, works_on};
@@ -11,6 +11,7 @@ use cyc_basics::memory::OutOfMemory;
 use derivations::tableaux::MadeNode;
 use goto_lang::Program;
 use heap_formula::{Judgement, Link, Reason};
+use rule_book::reasons::leaves_nothing;
 use rule_book::variables_of;
 use std::alloc::Global;
 
@@ -47,10 +48,13 @@ fn links_to(
     judgement: &Judgement,
 ) -> Result<Vec<Link>, OutOfMemory>
     requires companion { is_companion_of judgement.now node.now ≡ true }
-    ensures { IfOk result (λ found. found.items ≡ links_to_node MOST_LINKS program.now judgement.now number node.now) }
+    ensures { IfOk result (λ v. v.items ≡ tried_links program.now judgement.now number node.now) }
 {
     let companion = &node.goal.premise.judgement;
     if !is_as_long(judgement, companion) {
+        return Ok(Vec::new(alloc));
+    }
+    if !leaves_nothing(program, judgement, companion) {
         return Ok(Vec::new(alloc));
     }
     let p = variables_of(program, judgement);
@@ -67,7 +71,7 @@ fn push_links_to(
     judgement: &Judgement,
 ) -> Result<(), OutOfMemory>
     ensures { OnOk result (links.new.items
-        ≡ links.old.items ++ links_to_node MOST_LINKS program.now judgement.now number node.now) }
+        ≡ links.old.items ++ tried_links program.now judgement.now number node.now) }
 {
     if !is_companion(node, judgement) {
         return Ok(());

@@ -2,8 +2,7 @@
 ghost use Rattle.std.specs.Prelude.{◌≡◌, ◌≤◌, ◌∷◌, [], ℕ, IfOk, length};
 ghost use Rattle.std.specs.List.{filter};
 ghost use Rattle.heap_formula.specs.Meaning.{cases_of};
-ghost use Rattle.search_moves.specs.Trying.{is_applicable as is_applicable_at};
-ghost use Rattle.search_moves.specs.Settings.{theory_of};
+ghost use Rattle.search_moves.specs.Settings.{goes_at, theory_of};
 ghost use Rattle.search_moves.specs.Entailments.{last_line, several_line, entailment_after};
 ghost use Rattle.search_moves.specs.Lines.{rules_on as rules_on_line, offered_from};
 
@@ -41,7 +40,7 @@ const LINES: [Line; 7] = [
 
 /// The one rule, if it has no fault.
 pub fn rule_alone(alloc: Global, at: &GoalSetting<'_>, rule: Rule) -> Result<Vec<Rule>, OutOfMemory>
-    ensures { IfOk result (λ v. v.items ≡ filter (is_applicable_at (theory_of at.now) at.now.judgement.now) (rule ∷ [])) }
+    ensures { IfOk result (λ v. v.items ≡ filter (goes_at at.now) (rule ∷ [])) }
 {
     let rules = alone(alloc, rule)?;
     those_that_go(alloc, at, rules)

@@ -3,11 +3,11 @@ ghost use Rattle.std.specs.Prelude.{◌≡◌, ◌<◌, ℕ, ◌≤◌, IfOk, le
 ghost use Rattle.heap_formula.specs.Words.{Each};
 ghost use Rattle.heap_formula.specs.Meaning.{cases_of};
 ghost use Rattle.search_moves.specs.FoldLimits.{HasFewParameters};
-ghost use Rattle.search_moves.specs.Closing.{CloseAlike, IsPart, OffersClosing, OffersPart};
+ghost use Rattle.search_moves.specs.Closing.{BehindClosing, BehindPart, OffersClosing, OffersPart};
 ghost use Rattle.search_moves.specs.Limits.{IsSmall};
 ghost use Rattle.search_moves.specs.Settings.{theory_of, theory};
 ghost use Rattle.search_moves.specs.Offering.{candidates as candidates_of, rules_before as rules_before_links};
-ghost use Rattle.search_moves.specs.Offering.{rules_after as rules_after_links, links_offered, rules_offered};
+ghost use Rattle.search_moves.specs.Offering.{rules_behind, links_offered, rules_offered};
 
 use crate::closing::{closing_rules, have_cases};
 use crate::companions::candidates;
@@ -45,7 +45,7 @@ fn rules_after(
 ) -> Result<Vec<Rule>, OutOfMemory>
     requires parameters { Each HasFewParameters at.now.defs.now.list }
     requires cases { (q : ℕ) → length (cases_of at.now.defs.now.list q) ≤ 65536 }
-    ensures { IfOk result (λ v. v.items ≡ rules_after_links (theory_of at.now) made.now parent at.now.judgement.now) }
+    ensures { IfOk result (λ v. v.items ≡ rules_behind at.now made.now parent) }
 {
     match at.judgement {
         Judgement::Entail(left, right) => {
@@ -66,10 +66,8 @@ fn closing_rules_after(
 ) -> Result<Vec<Rule>, OutOfMemory>
     requires parameters { Each HasFewParameters at.now.defs.now.list }
     requires cases { (q : ℕ) → length (cases_of at.now.defs.now.list q) ≤ 65536 }
-    ensures closing { IfOk result (λ v. CloseAlike (theory_of at.now) at.now.judgement.now v.items
-        (rules_after_links (theory_of at.now) made.now parent at.now.judgement.now)) }
-    ensures offered { IfOk result (λ v. IsPart v.items
-        (rules_after_links (theory_of at.now) made.now parent at.now.judgement.now)) }
+    ensures closing { IfOk result (λ v. BehindClosing at.now made.now parent v.items) }
+    ensures offered { IfOk result (λ v. BehindPart at.now made.now parent v.items) }
 {
     match at.judgement {
         Judgement::Entail(left, right) if have_cases(at.defs, left.spatial()) => {

@@ -2,8 +2,7 @@
 ghost use Rattle.std.specs.Prelude.{◌≡◌, IfOk, false, take};
 ghost use Rattle.std.specs.List.{filter, list_any};
 ghost use Rattle.search_moves.specs.Places.{first_that};
-ghost use Rattle.search_moves.specs.Trying.{is_applicable as is_applicable_at};
-ghost use Rattle.search_moves.specs.Settings.{theory_of};
+ghost use Rattle.search_moves.specs.Settings.{goes_at};
 
 use crate::faults::{
     done_applies, has_room_left, has_room_right, may_choose, may_drop_right, may_frame,
@@ -26,7 +25,7 @@ pub struct GoalSetting<'a> {
 
 /// Whether the rule has no fault.
 pub fn is_applicable(alloc: Global, at: &GoalSetting<'_>, rule: &Rule) -> Result<bool, OutOfMemory>
-    ensures { IfOk result (λ b. b ≡ is_applicable_at (theory_of at.now) at.now.judgement.now rule.now) }
+    ensures { IfOk result (λ b. b ≡ goes_at at.now rule.now) }
 {
     let judgement = at.judgement;
     match rule {
@@ -43,7 +42,7 @@ pub fn is_applicable(alloc: Global, at: &GoalSetting<'_>, rule: &Rule) -> Result
 
 /// Whether the rule has premises, which are made and dropped.
 fn has_answer(alloc: Global, at: &GoalSetting<'_>, rule: &Rule) -> Result<bool, OutOfMemory>
-    ensures { IfOk result (λ b. b ≡ is_applicable_at (theory_of at.now) at.now.judgement.now rule.now) }
+    ensures { IfOk result (λ b. b ≡ goes_at at.now rule.now) }
 {
     match premises(alloc, at.defs, at.program, at.judgement, rule) {
         Ok(_) => Ok(true),
@@ -59,8 +58,7 @@ fn first_that_go(
     mut rules: Vec<Rule>,
     most: usize,
 ) -> Result<Vec<Rule>, OutOfMemory>
-    ensures { IfOk result (λ v. v.items
-        ≡ take most (filter (is_applicable_at (theory_of at.now) at.now.judgement.now) rules.items)) }
+    ensures { IfOk result (λ v. v.items ≡ take most (filter (goes_at at.now) rules.items)) }
 {
     let mut kept = 0;
     for k in 0..rules.len() {
@@ -79,7 +77,7 @@ pub fn those_that_go(
     at: &GoalSetting<'_>,
     rules: Vec<Rule>,
 ) -> Result<Vec<Rule>, OutOfMemory>
-    ensures { IfOk result (λ v. v.items ≡ filter (is_applicable_at (theory_of at.now) at.now.judgement.now) rules.items) }
+    ensures { IfOk result (λ v. v.items ≡ filter (goes_at at.now) rules.items) }
 {
     let most = rules.len();
     first_that_go(alloc, at, rules, most)
@@ -91,15 +89,14 @@ pub fn first_that_goes(
     at: &GoalSetting<'_>,
     rules: Vec<Rule>,
 ) -> Result<Vec<Rule>, OutOfMemory>
-    ensures { IfOk result (λ v. v.items ≡ first_that (is_applicable_at (theory_of at.now) at.now.judgement.now)
-        rules.items) }
+    ensures { IfOk result (λ v. v.items ≡ first_that (goes_at at.now) rules.items) }
 {
     first_that_go(alloc, at, rules, 1)
 }
 
 /// Whether one of the rules has no fault.
 pub fn some_goes(alloc: Global, at: &GoalSetting<'_>, rules: &[Rule]) -> Result<bool, OutOfMemory>
-    ensures { IfOk result (λ b. b ≡ list_any (is_applicable_at (theory_of at.now) at.now.judgement.now) rules.now) }
+    ensures { IfOk result (λ b. b ≡ list_any (goes_at at.now) rules.now) }
 {
     for rule in rules {
         if is_applicable(alloc, at, rule)? {

@@ -1,10 +1,10 @@
 // The rules at a symbolic state of a program, line by line.
-ghost use Rattle.std.specs.Prelude.{◌≡◌, ◌<◌, [], ◌∷◌, ◌++◌, IfOk, OnOk, length};
+ghost use Rattle.std.specs.Prelude.{◌≡◌, ◌<◌, [], ◌∷◌, ◌++◌, IfOk, OnOk, MatchOption, Some, None, length};
 ghost use Rattle.std.specs.List.{list_any};
 ghost use Rattle.heap_formula.specs.Programs.{counted_from_one, program_variables};
 ghost use Rattle.rule_table.specs.Tests.{equated as are_equated};
 ghost use Rattle.search_moves.specs.Settings.{theory_of};
-ghost use Rattle.search_moves.specs.States.{wanted_cell as wanted_by, reaches as reaches_term};
+ghost use Rattle.search_moves.specs.States.{wanted_cell as wanted_by, is_stop, reaches as reaches_term};
 ghost use Rattle.search_moves.specs.States.{unfolds_at as unfolds_at_term, lacks_cell, cell_unfolds, stops_that_go};
 ghost use Rattle.search_moves.specs.States.{folds_if, state_rewrites as state_rewrites_of, state_after};
 ghost use Rattle.heap_formula.specs.Words.{Each};
@@ -27,23 +27,34 @@ use rule_table::equated;
 use std::alloc::Global;
 
 /// The command of a line, if there is such a line.
-pub fn command_at(program: &Program, line: u32) -> Option<Command>
-    ensures { result ≡ counted_from_one program.now line }
+pub fn command_at(program: &Program, line: u32) -> Option<&Command>
+    ensures { MatchOption result (counted_from_one program.now line ≡ None) (λ c. counted_from_one program.now line
+        ≡ Some c.now) }
 {
     if line == 0 {
         return None;
     }
-    program.lines().get(line as usize - 1).copied()
+    program.lines().get(line as usize - 1)
 }
 
-/// The address at which a command wants a cell.
-fn wanted_cell(command: Option<Command>) -> Option<Term>
-    ensures { result ≡ wanted_by command }
+/// The address at which the command of a line wants a cell.
+fn wanted_cell(program: &Program, line: u32) -> Option<Term>
+    ensures { result ≡ wanted_by (counted_from_one program.now line) }
 {
-    match command? {
-        Command::Load(_, t, _) | Command::Store(t, _, _) | Command::Free(t) => Some(t),
+    match command_at(program, line) {
+        Some(Command::Load(_, t, _) | Command::Store(t, _, _) | Command::Free(t)) => Some(*t),
         _ => None,
     }
+}
+
+/// Whether the line's command is `stop`, with an end or without.
+fn is_at_stop(program: &Program, line: u32) -> bool
+    ensures { result ≡ is_stop (counted_from_one program.now line) }
+{
+    matches!(
+        command_at(program, line),
+        Some(Command::Stop | Command::Ends(_))
+    )
 }
 
 fn one_is_equated(pures: &[Pure], term: Term, args: &[Term]) -> bool
@@ -102,17 +113,17 @@ fn push_missing_unfolds(
     if !misses_cell(alloc, at)? {
         return Ok(());
     }
-    match wanted_cell(command_at(at.program, line)) {
+    match wanted_cell(at.program, line) {
         None => Ok(()),
         Some(term) => push_unfolds_at(rules, state, term),
     }
 }
 
-/// Exec at `stop`.
+/// Exec at `stop`, with an end or without.
 fn stops(alloc: Global, at: &GoalSetting<'_>, line: u32) -> Result<Vec<Rule>, OutOfMemory>
     ensures { IfOk result (λ v. v.items ≡ stops_that_go (theory_of at.now) at.now.judgement.now line) }
 {
-    if !matches!(command_at(at.program, line), Some(Command::Stop)) {
+    if !is_at_stop(at.program, line) {
         return Ok(Vec::new(alloc));
     }
     rule_alone(alloc, at, Rule::Exec)

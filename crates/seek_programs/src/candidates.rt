@@ -143,9 +143,7 @@ impl General {
             self.take_fold(commons, fold)?;
         }
         self.settle(commons, folds)?;
-        let atoms = commons.second.spatial().len();
-        let lost = atoms.saturating_sub(self.used.len());
-        self.pay(lost.min(64) as u32 * 2);
+        self.pay(self.lost(commons).min(64) as u32 * 2);
         self.cut.sort_unstable();
         self.dropped.sort_unstable();
         self.dropped.reverse();

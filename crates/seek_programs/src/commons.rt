@@ -13,6 +13,8 @@ pub struct Commons<'a> {
     pub first: &'a Heap,
     pub second: &'a Heap,
     pub variables: u16,
+    /// Whether nothing may be left out, or be over at a link: the program has an end.
+    pub is_whole: bool,
     pub terms: Vec<Term>,
     pub pairs: Vec<(Term, Term)>,
 }
@@ -33,12 +35,14 @@ impl<'a> Commons<'a> {
         first: &'a Heap,
         second: &'a Heap,
         variables: u16,
+        is_whole: bool,
     ) -> Result<Commons<'a>, OutOfMemory> {
         let mut commons = Commons {
             alloc,
             first,
             second,
             variables,
+            is_whole,
             terms: Vec::new(alloc),
             pairs: Vec::new(alloc),
         };

@@ -58,7 +58,44 @@ fn rewrite_of(heap: &Heap, variables: u16) -> Option<Rule> {
     None
 }
 
-/// Absurd; Exec at `stop`; Rewrite.
+/// How many spatial atoms the antecedent has.
+fn count_atoms(judgement: &Judgement) -> usize {
+    let (Judgement::Entail(heap, _) | Judgement::Term(_, heap)) = judgement;
+    heap.spatial().len()
+}
+
+/// Whether each case of the atom at a place that is not absurd has no atoms.
+fn is_empty_at(setting: &Setting<'_>, judgement: &Judgement, k: u32) -> Result<bool, OutOfMemory> {
+    let Some(premises) = setting.premises(judgement, &Rule::Unfold(k))? else {
+        return Ok(false);
+    };
+    for premise in premises.iter() {
+        let case = &premise.judgement;
+        if count_atoms(case) >= count_atoms(judgement) && !is_contradictory(setting, case)? {
+            return Ok(false);
+        }
+    }
+    Ok(true)
+}
+
+/// Unfold of a predicate atom that can only be empty: where the program has an end, it would be over at a link.
+fn empty_unfold(
+    setting: &Setting<'_>,
+    judgement: &Judgement,
+    state: &Heap,
+) -> Result<Option<Rule>, OutOfMemory> {
+    if !setting.program.has_ends() {
+        return Ok(None);
+    }
+    for (k, atom) in state.spatial().iter().enumerate() {
+        if is_predicate(atom) && is_empty_at(setting, judgement, k as u32)? {
+            return Ok(Some(Rule::Unfold(k as u32)));
+        }
+    }
+    Ok(None)
+}
+
+/// Absurd; Exec at `stop`; Rewrite; Unfold of what is empty, where the program has an end.
 pub fn forced_rule(
     setting: &Setting<'_>,
     judgement: &Judgement,
@@ -68,10 +105,16 @@ pub fn forced_rule(
     if setting.is_applicable(judgement, &Rule::Absurd)? {
         return Ok(Some(Rule::Absurd));
     }
-    if command_of(setting.program, line) == Some(Command::Stop) {
+    if matches!(
+        command_of(setting.program, line),
+        Some(Command::Stop | Command::Ends(_))
+    ) {
         return Ok(Some(Rule::Exec));
     }
-    Ok(rewrite_of(state, setting.variables(judgement)))
+    match rewrite_of(state, setting.variables(judgement)) {
+        Some(rule) => Ok(Some(rule)),
+        None => empty_unfold(setting, judgement, state),
+    }
 }
 
 /// The first equation of two different terms as a substitution for its variable.

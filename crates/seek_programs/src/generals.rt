@@ -44,7 +44,7 @@ fn has_same(all: &[General], general: &General) -> bool {
     false
 }
 
-/// Adds the candidate with these folds, unless it changes nothing or is there already.
+/// Adds the candidate with these folds, unless it is of no use or is there already.
 fn push_general(
     all: &mut Vec<General>,
     commons: &Commons<'_>,
@@ -55,7 +55,7 @@ fn push_general(
     }
     let mut general = General::none(commons.alloc);
     let filled = general.fill(commons, folds);
-    if filled.is_err() || general.is_idle() || has_same(all, &general) {
+    if filled.is_err() || !general.is_useful(commons) || has_same(all, &general) {
         drop(general);
         return filled;
     }
@@ -125,7 +125,8 @@ fn push_later(
     variables: u16,
 ) -> Result<(), OutOfMemory> {
     let alloc = entailments.setting.alloc;
-    let commons = Commons::new(alloc, state, later, variables)?;
+    let is_whole = entailments.setting.program.has_ends();
+    let commons = Commons::new(alloc, state, later, variables, is_whole)?;
     let mut folds = Vec::new(alloc);
     let mut ran = push_state_folds(&mut folds, entailments, fitting, &commons);
     if ran.is_ok() {

@@ -60,11 +60,26 @@ impl General {
     }
 
     /// Whether nothing comes in and nothing is left out.
-    pub fn is_idle(&self) -> bool {
+    fn is_idle(&self) -> bool {
         self.by.is_empty()
             && self.dropped.is_empty()
             && self.weakened.is_empty()
             && self.pure.is_empty()
+    }
+
+    /// Whether something changes, and nothing is left out or over where that may not be.
+    pub fn is_useful(&self, commons: &Commons<'_>) -> bool {
+        let is_all = self.dropped.is_empty() && self.lost(commons) == 0;
+        !self.is_idle() && (is_all || !commons.is_whole)
+    }
+
+    /// How many atoms of the second state are not accounted for.
+    pub fn lost(&self, commons: &Commons<'_>) -> usize {
+        commons
+            .second
+            .spatial()
+            .len()
+            .saturating_sub(self.used.len())
     }
 
     /// Adds to the score.

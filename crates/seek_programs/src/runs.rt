@@ -8,10 +8,10 @@ use seek_engine::{Aim, Move, Setting, arguments, one_rule};
 use std::alloc::Global;
 
 /// The address of the cell that a command needs.
-fn wanted_address(command: Option<Command>) -> Option<Term> {
+fn wanted_address(command: Option<&Command>) -> Option<Term> {
     match command {
         Some(Command::Free(term) | Command::Load(_, term, _) | Command::Store(term, _, _)) => {
-            Some(term)
+            Some(*term)
         }
         _ => None,
     }

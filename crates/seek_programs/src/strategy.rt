@@ -3,7 +3,7 @@ use crate::climbing::{unfolds_here, visits};
 use crate::folds::{Folds, push_turns};
 use crate::forced::{forced_rule, is_decided};
 use crate::generals::push_general_moves;
-use crate::heads::is_head;
+use crate::heads::{has_end, is_head};
 use crate::runs::{push_rule, push_steps};
 use cyc_basics::memory::OutOfMemory;
 use heap_formula::{Heap, Judgement};
@@ -14,6 +14,9 @@ const MOST_CHANGES: u32 = 3;
 
 /// How many Unfolds may come between two commands.
 const MOST_UNFOLDS: u32 = 4;
+
+/// The greatest fuel at which the entailment of an end is tried.
+const END_FUEL: u32 = 9;
 
 /// The moves of the whole search.
 #[derive(Drop)]
@@ -72,6 +75,15 @@ impl<'a> Programs<'a> {
         push_turns(moves, place.draft, &all, place.node, 3, 4)
     }
 
+    /// What is to be reached at the premises of a rule that loses nothing: behind a `stop` with an end stands the
+    /// entailment of the end.
+    fn aim_behind(&self, place: &LinePlace<'_>, aim: Aim) -> Aim {
+        if has_end(self.setting.program, place.line) {
+            return Aim::Aside(END_FUEL);
+        }
+        aim
+    }
+
     /// A rule that loses nothing, and nothing else; else, at a head, what closes the node.
     fn first_stage(
         &self,
@@ -82,6 +94,7 @@ impl<'a> Programs<'a> {
         let setting = &self.setting;
         if let Some(rule) = forced_rule(setting, place.judgement, place.line, place.state)? {
             offered.is_last = true;
+            let aim = self.aim_behind(place, aim);
             return push_rule(&mut offered.moves, setting.alloc, rule, aim);
         }
         if self.is_at_head(place) {

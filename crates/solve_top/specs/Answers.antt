@@ -17,6 +17,7 @@ use Rattle.proof_file.specs.declared.file.ProofFile.{ProofFile}
 use Rattle.proof_file.specs.Written.{text_of_file}
 use Rattle.run_file.specs.declared.file.RunFile.{RunFile}
 use Rattle.command_answers.specs.Answers.{IsPossible}
+use Rattle.script_answers.specs.Asking.{IsGoalOfInput}
 use Rattle.script_answers.specs.Refusals.{is_refusal}
 use Rattle.script_formulas.specs.declared.goals.question.Question.{Question}
 use Rattle.script_formulas.specs.declared.goals.question.Question.TheVariants.{Entailment, Satisfiability}
@@ -154,19 +155,19 @@ abbrev pub is_entailment : Judgement → Bool
 is_entailment (Entail a bs) = true
 is_entailment (Halting i a) = false
 
--- the text of a problem is told, and what is found of it
-pub record IsSolvedScript (ending : Status) (text : List ℕ) : Type 0 where
+-- the text of a problem that asks what the script does is told, and what is found of it
+pub record IsSolvedScript (input : List ℕ) (ending : Status) (text : List ℕ) : Type 0 where
   pub question : Question
   pub problem : Problem
+  pub asks : IsGoalOfInput input question problem.defs.list problem.goal
   pub spelled : List ℕ
   pub is_problem : problems.IsRead spelled (Ok problem)
   pub said : ((found : Solution) × IsSolution problem found × (is_entailment problem.goal ≡ true)
       × IsScriptSaid question spelled found ending text) ⊎ IsPossibilitySaid question problem spelled ending text
 
--- a script is refused, or the problem is told that it became. That the problem asks what the script asks is not said
--- here
-abbrev pub IsScriptAnswer : Status → List ℕ → Type 0
-IsScriptAnswer ending text = (is_refusal ending ≡ true) ⊎ IsSolvedScript ending text
+-- a script is refused, or the problem is told that it became
+abbrev pub IsScriptAnswer : List ℕ → Status → List ℕ → Type 0
+IsScriptAnswer input ending text = (is_refusal ending ≡ true) ⊎ IsSolvedScript input ending text
 
 -- ---- frames
 
@@ -215,7 +216,7 @@ IsAnswerToAsked false input ending text = IsAnswerTo (is_run_text input) input e
 
 -- an input that begins as a script is read as one
 abbrev pub IsInputAnswer : Bool → List ℕ → Status → List ℕ → Type 0
-IsInputAnswer true input ending text = IsScriptAnswer ending text
+IsInputAnswer true input ending text = IsScriptAnswer input ending text
 IsInputAnswer false input ending text = IsAnswerToAsked (is_frame_text input) input ending text
 
 abbrev pub IsSolved : Answering

@@ -17,7 +17,10 @@ use Rattle.frames.specs.Questions.{is_frame_text, plain_text}
 use Rattle.solve_top.specs.Frames.{HasNoFrame, IsFrameOf}
 use Rattle.solve_top.specs.Notes.{AreNotes}
 use Rattle.solve_top.specs.Answers.{IsCertified, fails_line, holds_line, impossible_line, sat_line, unsat_line}
+use Rattle.script_answers.specs.Asking.{IsGoalOfInput}
 use Rattle.script_answers.specs.Begins.{is_script_text}
+use Rattle.script_formulas.specs.declared.goals.question.Question.{Question}
+use Rattle.script_formulas.specs.Meaning.{IsSatisfiable}
 
 -- after the first line the text spells a proof of the goal that a check accepts
 pub record IsProofText (problem : Problem) (text : List ℕ) : Type 0 where
@@ -40,7 +43,8 @@ pub record IsModelText (problem : Problem) (text : List ℕ) : Type 0 where
   pub is : text ≡ fails_line ++ certificate
   pub is_file : models.IsRead certificate (Ok model)
 
--- after the first line the text spells a run file, whose run faults or comes back from a state of the precondition
+-- after the first line the text spells a run file, whose run from a state of the precondition faults, comes back, or
+-- stops at an end that does not hold
 pub record IsRunText (problem : Problem) (text : List ℕ) : Type 0 where
   pub run : RunFile
   pub faulty : IsFaultyRun problem run
@@ -95,26 +99,34 @@ ShowsModel problem certificate =
     ((m : Model) × IsCounterModel problem m × models.IsRead certificate (Ok m))
     ⊎ (IsPossible problem × (certificate ≡ []))
 
--- after `unsat` the text of a problem stands whose goal holds, and what shows it
-pub record IsUnsatText (text : List ℕ) : Type 0 where
+-- after `unsat` the text of a problem stands that asks what the script does, and whose goal holds, and what shows it;
+-- then nothing satisfies the script
+pub record IsUnsatText (input text : List ℕ) : Type 0 where
+  pub question : Question
   pub problem : Problem
+  pub asks : IsGoalOfInput input question problem.defs.list problem.goal
   pub certificate : List ℕ
   pub over : IsOverProblem unsat_line text problem certificate
   pub holds : Holds problem
   pub shown : ShowsHolding problem certificate
+  pub unsatisfiable : ¬ IsSatisfiable asks.script
 
--- after `sat` the text of a problem stands whose antecedent something satisfies, and what shows it
-pub record IsSatText (text : List ℕ) : Type 0 where
+-- after `sat` the text of a problem stands that asks what the script does, and whose antecedent something satisfies,
+-- and what shows it; then something satisfies the script
+pub record IsSatText (input text : List ℕ) : Type 0 where
+  pub question : Question
   pub problem : Problem
+  pub asks : IsGoalOfInput input question problem.defs.list problem.goal
   pub certificate : List ℕ
   pub over : IsOverProblem sat_line text problem certificate
   pub possible : IsPossible problem
   pub shown : ShowsModel problem certificate
+  pub satisfiable : IsSatisfiable asks.script
 
 -- the input begins as a script, and the text is one of these
 pub record ScriptIsSolved (input text : List ℕ) : Type 0 where
   pub script : is_script_text input ≡ true
-  pub shown : IsUnsatText text ⊎ IsSatText text
+  pub shown : IsUnsatText input text ⊎ IsSatText input text
 
 -- after `holds` the text of a problem stands that says what is left of the problem's antecedent, and a proof of its
 -- goal that a check accepts; and something satisfies the antecedent

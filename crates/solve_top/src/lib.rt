@@ -54,8 +54,8 @@ pub fn run<S: Source, K: Sink>(alloc: Global, words: &[String], src: &mut S, out
         → ¬ Rose (S.faults src.old) (S.faults src.new) → ¬ Rose (K.faults out.old) (K.faults out.new)
         → EndAlike result status ⊎ (result ≡ Status.OutOfMemory) }
     // The goal of the problem holds, and what was written shows it; or the run is as its file tells; or a script became
-    // a problem, and what was written shows what is said of that; or a frame was asked for, and what was written shows
-    // one, or nothing satisfies the antecedent.
+    // a problem that asks what it does, and what was written shows whether something satisfies the script; or a frame
+    // was asked for, and what was written shows one, or nothing satisfies the antecedent.
     ensures headline { result ≡ Status.Success
         → WroteHolds (S.left src.old) (K.written out.old) (K.written out.new) }
     // The goal of the problem does not hold, and what was written shows it; or the run is not as its file tells; or the

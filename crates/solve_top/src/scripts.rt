@@ -1,13 +1,15 @@
 // The answer to a script.
-ghost use Rattle.std.specs.Prelude.{◌≡◌, ◌≤◌, ◌⊎◌, [], length, Ok, IfOk, IfSome, true};
+ghost use Rattle.std.specs.Prelude.{◌≡◌, ◌≤◌, ◌⊎◌, ℕ, List, [], length, Ok, IfOk, IfSome, IsTrue, true};
 ghost use Rattle.cyc_runs.specs.Endings.{is_answer};
 ghost use Rattle.cyc_runs.specs.Runs.{input_limit};
 ghost use Rattle.formula_reader.specs.Reading.{IsRead};
+ghost use Rattle.formula_reader.specs.declared.problem.Problem.{Problem as ReadProblem};
+ghost use Rattle.script_answers.specs.Asking.{IsGoalOfInput};
 ghost use Rattle.solver.specs.Solutions.{IsSolution};
 ghost use Rattle.solve_top.specs.Answers.{IsAsked, IsScriptAnswer, IsScriptSaid, IsSolvedScript};
 ghost use Rattle.solve_top.specs.Answers.{is_entailment as is_entailment_goal, proof_text, sat_status as sat_ending};
 ghost use Rattle.solve_top.specs.Answers.{text_of_refutation, unsat_status as unsat_ending};
-ghost use Rattle.solve_top.specs.Possibilities.{IsKnown};
+ghost use Rattle.solve_top.specs.Possibilities.{IsKnownFor};
 
 use crate::answers::refuting_text;
 use crate::explanations::Notes;
@@ -16,8 +18,9 @@ use crate::possibilities::{Possibility, possibility_of};
 use cyc_basics::memory::OutOfMemory;
 use cyc_lex::ReadFault;
 use cyc_runs::{Answer, INPUT_LIMIT, Status, fixed_answer};
+use definition_equality::are_same_definitions;
 use formula_reader::{Problem, read_problem};
-use heap_formula::Judgement;
+use heap_formula::{Judgement, is_same_judgement};
 use proof_file::texts::write_file;
 use script_answers::{Asked, AskedScript, asked_of_script};
 use script_formulas::goals::Question;
@@ -107,15 +110,27 @@ fn is_entailment(problem: &Problem) -> bool
     }
 }
 
+/// Whether a problem has just the definitions and the goal that a script became.
+fn has_goal(problem: &Problem, asked: &AskedScript) -> bool
+    ensures definitions { IsTrue result → problem.now.defs.list ≡ asked.now.asks.defs.list }
+    ensures goal { IsTrue result → problem.now.goal ≡ asked.now.asks.goal }
+{
+    are_same_definitions(problem.defs.as_slice(), asked.asks.defs.as_slice())
+        && is_same_judgement(&problem.goal, &asked.asks.goal)
+}
+
 /// The answer to a satisfiability that base pairs decide, without a certificate.
 fn answer_to_known(
     alloc: Global,
+    question: Question,
     problem: &[u8],
     known: Possibility,
     notes: &Notes,
 ) -> Result<Option<Answer>, OutOfMemory>
-    requires { IsKnown problem.now known }
-    ensures said { IfOk result (λ o. IfSome o (λ a. IsSolvedScript a.status a.text.items)) }
+    requires { IsKnownFor question problem.now known }
+    ensures said { (input : List ℕ) (p : ReadProblem) → IsRead problem.now (Ok p)
+        → IsGoalOfInput input question p.defs.list p.goal
+        → IfOk result (λ o. IfSome o (λ a. IsSolvedScript input a.status a.text.items)) }
     ensures ending { IfOk result (λ o. IfSome o (λ a. is_answer a.status ≡ true)) }
 {
     let (status, text) = match known {
@@ -129,6 +144,17 @@ fn answer_to_known(
     Ok(Some(Answer { status, text }))
 }
 
+/// What base pairs tell of a problem that asks a satisfiability.
+fn known_for(alloc: Global, question: Question, text: &[u8]) -> Result<Possibility, OutOfMemory>
+    requires { length text.now ≤ input_limit }
+    ensures { IfOk result (IsKnownFor question text.now) }
+{
+    match question {
+        Question::Entailment => Ok(Possibility::Unknown),
+        Question::Satisfiability => possibility_of(alloc, text),
+    }
+}
+
 /// The answer to the problem that a script became.
 fn answer_to_asked(
     alloc: Global,
@@ -139,22 +165,22 @@ fn answer_to_asked(
     requires read { IsRead asked.now.text.items (Ok problem.now) }
     requires short { length asked.now.text.items ≤ input_limit }
     requires entailment { is_entailment_goal problem.now.goal ≡ true }
-    ensures said { IfOk result (λ a. IsSolvedScript a.status a.text.items) }
+    ensures said { (input : List ℕ)
+        → IsGoalOfInput input asked.now.asks.question problem.now.defs.list problem.now.goal
+        → IfOk result (λ a. IsSolvedScript input a.status a.text.items) }
     ensures ending { IfOk result (λ a. is_answer a.status ≡ true) }
 {
     let text = asked.text.as_slice();
-    let known = match asked.asks.question {
-        Question::Entailment => Possibility::Unknown,
-        Question::Satisfiability => possibility_of(alloc, text)?,
-    };
+    let question = asked.asks.question;
+    let known = known_for(alloc, question, text)?;
     let solution = solve(alloc, problem, effort)?;
     let notes = notes_on_script(alloc, text, problem, &solution, effort)?;
     if let Solution::Unknown { stuck: _ } = &solution {
-        if let Some(answer) = answer_to_known(alloc, text, known, &notes)? {
+        if let Some(answer) = answer_to_known(alloc, question, text, known, &notes)? {
             return Ok(answer);
         }
     }
-    answer_to_found(alloc, asked.asks.question, text, &solution, &notes)
+    answer_to_found(alloc, question, text, &solution, &notes)
 }
 
 /// The answer to a script whose problem has this text.
@@ -163,14 +189,16 @@ fn answer_to_script_text(
     asked: &AskedScript,
     effort: u32,
 ) -> Result<Answer, OutOfMemory>
-    ensures said { IfOk result (λ a. IsScriptAnswer a.status a.text.items) }
+    ensures said { (input : List ℕ)
+        → IsGoalOfInput input asked.now.asks.question asked.now.asks.defs.list asked.now.asks.goal
+        → IfOk result (λ a. IsScriptAnswer input a.status a.text.items) }
     ensures ending { IfOk result (λ a. is_answer a.status ≡ true) }
 {
     if asked.text.len() > INPUT_LIMIT {
         return fixed_answer(alloc, Status::Limit, "limit text\n");
     }
     match read_problem(alloc, &asked.text) {
-        Ok(problem) if is_entailment(&problem) => {
+        Ok(problem) if is_entailment(&problem) && has_goal(&problem, asked) => {
             answer_to_asked(alloc, asked, &problem, effort)
         }
         Err(ReadFault::OutOfMemory) => Err(OutOfMemory),
@@ -181,7 +209,7 @@ fn answer_to_script_text(
 /// The answer to a script.
 pub fn answer_to_script(alloc: Global, input: &[u8], effort: u32) -> Result<Answer, OutOfMemory>
     requires { length input.now ≤ input_limit }
-    ensures said { IfOk result (λ a. IsScriptAnswer a.status a.text.items) }
+    ensures said { IfOk result (λ a. IsScriptAnswer input.now a.status a.text.items) }
     ensures ending { IfOk result (λ a. is_answer a.status ≡ true) }
 {
     match asked_of_script(alloc, input)? {

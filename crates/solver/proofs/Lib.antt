@@ -1,3 +1,4 @@
+pub mod Broken
 pub mod Checked
 pub mod Counters
 pub mod Faulty

@@ -40,7 +40,8 @@ Begins : Said → Type 0
 Begins s = Satisfies s.definitions s.stack s.heap s.precondition
 
 Ends : Said → Type 0
-Ends s = EndsSo s.lines (headroom_of s.picks) s.picks (start_at s.lines s.line s.stack s.heap) s.outcome
+Ends s =
+    EndsSo s.definitions s.lines (headroom_of s.picks) s.picks (start_at s.lines s.line s.stack s.heap) s.outcome
 
 one_said : (r q : RunFile) → AreSame r q → said_by r ≡ said_by q
 unfolding said_by

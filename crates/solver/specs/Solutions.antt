@@ -61,7 +61,8 @@ pub record IsCounterModel (problem : Problem) (m : Model) : Type 0 where
   pub none : ¬ SatisfiesOne problem.defs.list m.stack m.heap disjuncts
   pub fails : ¬ Holds problem
 
--- a run of the goal's program from a state of its precondition, which faults or comes back, perhaps with more
+-- a run of the goal's program from a state of its precondition, which faults, comes back, perhaps with more, or stops at
+-- an end that does not hold
 pub record IsFaultyRun (problem : Problem) (r : RunFile) : Type 0 where
   pub definitions : r.defs.list ≡ problem.defs.list
   pub program : r.program ≡ problem.program

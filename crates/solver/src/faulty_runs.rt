@@ -11,7 +11,7 @@ use general_models::CheckFault;
 use general_models::runs::{Ending, Pick, RunEnd, headroom, run};
 use goto_lang::{Cells, Config, Program, Stack};
 use heap_formula::Heap;
-use refute_runs::{FaultyRun, faulty_run};
+use refute_runs::{FaultyRun, Finish, faulty_run};
 use run_file::problems::run_for;
 use run_file::{Outcome, RunFile};
 use std::alloc::Global;
@@ -48,12 +48,13 @@ fn outcome(
     stack: &[u64],
     heap: &Cells,
     picks: &[Pick],
-    ending: Ending,
+    finish: Finish,
 ) -> Result<Outcome, OutOfMemory> {
-    match ending {
-        Ending::Repeat(first, again) => Ok(Outcome::Repeats { first, again }),
-        Ending::Grow(growth) => Ok(Outcome::Grows(growth)),
-        Ending::FaultAfter(step) => {
+    match finish {
+        Finish::BreaksEnd(step) => Ok(Outcome::Breaks { step }),
+        Finish::Refutes(Ending::Repeat(first, again)) => Ok(Outcome::Repeats { first, again }),
+        Finish::Refutes(Ending::Grow(growth)) => Ok(Outcome::Grows(growth)),
+        Finish::Refutes(Ending::FaultAfter(step)) => {
             let count = (program.variables() as usize).min(stack.len());
             let start = Config {
                 line,
@@ -87,7 +88,7 @@ fn checked(
     ensures { IfOk result (IsFoundRun problem.now) }
 {
     let heap = heap_of(alloc, run.cells)?;
-    let ending = run.ending;
+    let finish = run.finish;
     let outcome = outcome(
         alloc,
         &problem.program,
@@ -95,7 +96,7 @@ fn checked(
         &run.stack,
         &heap,
         &run.picks,
-        ending,
+        finish,
     )?;
     let Some(file) = run_for(alloc, problem, run.stack, heap, run.picks, outcome)? else {
         return Ok(None);
@@ -107,8 +108,8 @@ fn checked(
     Ok(Some(file))
 }
 
-/// Searches for a run of the goal's program from a state of its precondition, which faults or comes back, perhaps with
-/// more, in so many rounds.
+/// Searches for a run of the goal's program from a state of its precondition, which faults, comes back, perhaps with
+/// more, or stops at an end that does not hold, in so many rounds.
 pub fn refuting_run(
     alloc: Global,
     problem: &Problem,

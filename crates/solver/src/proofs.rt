@@ -99,6 +99,15 @@ fn long_proof(
     by_contradiction(setting, goal, budget.contradiction_steps)
 }
 
+/// The steps of a search for the proof of a program: four times as many where it has an end, since then each of its
+/// general states is whole.
+fn steps_of(problem: &Problem, budget: Budget) -> u32 {
+    if problem.program.has_ends() {
+        return budget.steps.saturating_mul(4);
+    }
+    budget.steps
+}
+
 fn found_draft(
     alloc: Global,
     problem: &Problem,
@@ -113,7 +122,8 @@ fn found_draft(
     let goal = &problem.goal;
     match goal {
         Judgement::Term(_, _) => {
-            by_stack(setting, goal, Aim::Rounds(VISITS), budget.steps, stuck)
+            let steps = steps_of(problem, budget);
+            by_stack(setting, goal, Aim::Rounds(VISITS), steps, stuck)
         }
         Judgement::Entail(_, _) => match budget.contradiction_steps {
             0 => short_proof(setting, goal, budget, stuck),

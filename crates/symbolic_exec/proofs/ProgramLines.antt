@@ -7,7 +7,7 @@ use Rattle.heap_formula.specs.declared.atoms.Pure.TheVariants.{Eq, Neq}
 use Rattle.heap_formula.specs.declared.terms.Term.TheVariants.{Univ}
 use Rattle.heap_formula.specs.declared.commands.Command.{Command}
 use Rattle.heap_formula.specs.declared.commands.Command.TheVariants.{Assign, Load, Store, New, Free, IfEq, IfNeq, IfAny}
-use Rattle.heap_formula.specs.declared.commands.Command.TheVariants.{Goto, Stop}
+use Rattle.heap_formula.specs.declared.commands.Command.TheVariants.{Goto, Stop, Ends}
 use Rattle.heap_formula.specs.declared.judgements.Judgement.{Judgement}
 use Rattle.heap_formula.specs.declared.judgements.Judgement.TheVariants.{Entail, Term as Runs}
 use Rattle.heap_formula.specs.declared.judgements.Premise.{Premise}
@@ -25,6 +25,7 @@ use Rattle.heap_formula.specs.Words.{Each}
 use Rattle.goto_lang.specs.Lines.{IsUniversalCommand, MayStandAt, IsLineOf, IsProgram}
 use Rattle.rule_table.specs.Answer.{Answer, one, two}
 use Rattle.rule_table.specs.Answered.{IsAnswer}
+use Rattle.rule_table.specs.Table.{with_right}
 use Rattle.rule_table.specs.ExecTable.{cell_of, renamed, renamed_term, with_atom, with_cell, with_field, at_line}
 use Rattle.rule_table.specs.ExecTable.{command_answer, exec_answer}
 use Rattle.rule_table.specs.Fits.{OnPremises}
@@ -51,6 +52,7 @@ has_fields n i (IfNeq t u j) m = tt
 has_fields n i (IfAny j) m = tt
 has_fields n i (Goto j) m = tt
 has_fields n i Stop m = tt
+has_fields n i (Ends bs) m = tt
 
 is_command : (c : Command) → HasFields c → IsUniversalCommand c → IsCommand c
 is_command (Assign x t) f u = u
@@ -63,6 +65,7 @@ is_command (IfNeq t v j) f u = u
 is_command (IfAny j) f u = tt
 is_command (Goto j) f u = tt
 is_command Stop f u = tt
+is_command (Ends bs) f u = tt
 
 are_commands : (cs : List Command) → ((i : ℕ) (c : Command) → slice_get cs i ≡ Some c → HasFields c)
     → Each IsUniversalCommand cs → Each IsCommand cs
@@ -86,6 +89,7 @@ few_new n i (IfNeq t u j) m = omega arith
 few_new n i (IfAny j) m = omega arith
 few_new n i (Goto j) m = omega arith
 few_new n i Stop m = omega arith
+few_new n i (Ends bs) m = omega arith
 
 pub few_fields : (lines : List Command) → IsProgram lines → (i : ℕ) (c : Command) → counted_from_one lines i ≡ Some c
     → new_fields c ≤ 8
@@ -116,6 +120,7 @@ module _ (n i : ℕ) (a : SymbolicHeap) (m : ℕ) where
   command_lines : (most : Limits) (c : Command) → MayStandAt n i c
       → OnPremises (IsPremiseAtLine n) (command_answer most i a m c)
   command_lines most Stop h = tt
+  command_lines most (Ends bs) h = limited_on (IsPremiseAtLine n) most (one (with_right a bs)) (tt, tt)
   command_lines most (Goto j) h = limited_on (IsPremiseAtLine n) most (one (at_line j a a)) (h, tt)
   command_lines most (IfEq t u j) h =
       limited_on (IsPremiseAtLine n) most (two (at_line j a (with_atom a (Eq t u)))

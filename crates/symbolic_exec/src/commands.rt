@@ -1,7 +1,7 @@
 // The premises at each command.
 ghost use Rattle.std.specs.Prelude.{◌≡◌, ◌≤◌, ◌<◌, ◌+◌, IfOk, length};
 ghost use Rattle.heap_formula.specs.declared.atoms.Pure.TheVariants.{Eq};
-ghost use Rattle.heap_formula.specs.declared.commands.Command.TheVariants.{Load, Store, New, Free, IfAny, Goto};
+ghost use Rattle.heap_formula.specs.declared.commands.Command.TheVariants.{Load, Store, New, Free, IfAny, Goto, Ends};
 ghost use Rattle.heap_formula.specs.declared.judgements.Judgement.TheVariants.{Term as Runs};
 ghost use Rattle.heap_formula.specs.Positions.{before, pairs_from};
 ghost use Rattle.rule_table.specs.Answer.{limited, one};
@@ -14,8 +14,12 @@ use crate::cells::{FoundCell, cell_at, field_at, with_field};
 use crate::states::{allocated, assigned, at_line, only_at_line, with_atom};
 use cyc_basics::limits::{Limits, MOST_ARGUMENTS, MOST_PURE};
 use cyc_basics::memory::OutOfMemory;
-use heap_formula::{Command, Heap, Judgement, Premise, Pure, RuleError, RuleFault, Spatial, Term};
-use rule_table::{is_short, numbered, one_premise, pairs_of_kept, two_premises};
+use heap_formula::{
+    Command, Disjuncts, Heap, Judgement, Premise, Pure, RuleError, RuleFault, Spatial, Term,
+};
+use rule_table::{
+    are_short, is_short, numbered, one_premise, pairs_of_kept, two_premises, with_disjuncts,
+};
 use std::alloc::Global;
 
 /// What premises depend on besides the command and the state: the command's line, the number of a fresh variable, and
@@ -207,27 +211,42 @@ fn any(alloc: Global, at: LineSetting, a: &Heap, target: u32) -> Result<Vec<Prem
     numbered(two_premises(alloc, jumps, goes_on)?)
 }
 
+fn ends(
+    alloc: Global,
+    at: LineSetting,
+    a: &Heap,
+    disjuncts: &Disjuncts,
+) -> Result<Vec<Premise>, RuleError>
+    ensures { IsAnswer result (command_answer at.most at.line a.now at.fresh (Ends disjuncts.now)) }
+{
+    if !is_short(at.most, a) || !are_short(at.most, disjuncts.heaps()) {
+        return Err(RuleError::Fault(RuleFault::TooManyAtoms));
+    }
+    numbered(one_premise(alloc, with_disjuncts(alloc, a, disjuncts)?)?)
+}
+
 /// The premises of a command at a symbolic state.
 pub fn command_premises(
     alloc: Global,
     at: LineSetting,
     a: &Heap,
-    command: Command,
+    command: &Command,
 ) -> Result<Vec<Premise>, RuleError>
     requires setting { IsSetting at }
-    requires few { new_fields command ≤ MOST_ARGUMENTS }
-    ensures { IsAnswer result (command_answer at.most at.line a.now at.fresh command) }
+    requires few { new_fields command.now ≤ MOST_ARGUMENTS }
+    ensures { IsAnswer result (command_answer at.most at.line a.now at.fresh command.now) }
 {
     match command {
-        Command::Assign(x, t) => set(alloc, at, a, x, t),
-        Command::Load(x, t, k) => load(alloc, at, a, x, t, k),
-        Command::Store(t, k, u) => store(alloc, at, a, t, k, u),
-        Command::New(x, k) => new(alloc, at, a, x, k),
-        Command::Free(t) => free(alloc, at, a, t),
-        Command::IfEq(t, u, j) => test(alloc, at, a, j, Pure::Eq(t, u), Pure::Neq(t, u)),
-        Command::IfNeq(t, u, j) => test(alloc, at, a, j, Pure::Neq(t, u), Pure::Eq(t, u)),
-        Command::IfAny(j) => any(alloc, at, a, j),
-        Command::Goto(j) => goto(alloc, at, a, j),
+        Command::Assign(x, t) => set(alloc, at, a, *x, *t),
+        Command::Load(x, t, k) => load(alloc, at, a, *x, *t, *k),
+        Command::Store(t, k, u) => store(alloc, at, a, *t, *k, *u),
+        Command::New(x, k) => new(alloc, at, a, *x, *k),
+        Command::Free(t) => free(alloc, at, a, *t),
+        Command::IfEq(t, u, j) => test(alloc, at, a, *j, Pure::Eq(*t, *u), Pure::Neq(*t, *u)),
+        Command::IfNeq(t, u, j) => test(alloc, at, a, *j, Pure::Neq(*t, *u), Pure::Eq(*t, *u)),
+        Command::IfAny(j) => any(alloc, at, a, *j),
+        Command::Goto(j) => goto(alloc, at, a, *j),
         Command::Stop => Ok(Vec::new(alloc)),
+        Command::Ends(disjuncts) => ends(alloc, at, a, disjuncts),
     }
 }

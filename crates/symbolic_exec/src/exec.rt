@@ -1,5 +1,5 @@
 // The premises at the command of a judgement's line.
-ghost use Rattle.std.specs.Prelude.{◌≡◌, ◌≤◌, IfOk, List, length};
+ghost use Rattle.std.specs.Prelude.{◌≡◌, ◌≤◌, IfOk, List, length, MatchOption, Some, None};
 ghost use Rattle.cyc_basics.specs.Limits.{AreLimits};
 ghost use Rattle.heap_formula.specs.Closedness.{IsUniversalHeap};
 ghost use Rattle.heap_formula.specs.Definitions.{Definition};
@@ -18,14 +18,15 @@ use heap_formula::{Command, Judgement, Premise, RuleError, RuleFault};
 use rule_table::fresh;
 use std::alloc::Global;
 
-fn command_at(program: &Program, line: u32) -> Option<Command>
-    ensures { result ≡ counted_from_one program.now line }
+fn command_at(program: &Program, line: u32) -> Option<&Command>
+    ensures { MatchOption result (counted_from_one program.now line ≡ None) (λ c. counted_from_one program.now line
+        ≡ Some c.now) }
 {
     let lines = program.lines();
     if line == 0 {
         None
     } else {
-        lines.get(line as usize - 1).copied()
+        lines.get(line as usize - 1)
     }
 }
 
@@ -54,9 +55,9 @@ fn exec(
 }
 
 /// What is left of a judgement on the program's runs after the command at its line: a premise for each line to which
-/// the command may lead, none at `stop`. A command that reads, writes or frees takes the first cell whose address is
-/// its term or stands with it in one equation. `most` are the limits of
-/// the format's version. Where the line is none of the program's, the answer is `WrongJudgement`, as for an entailment.
+/// the command may lead, none at `stop`, and at an end that the state entails it. A command that reads, writes or frees
+/// takes the first cell whose address is its term or stands with it in one equation. `most` are the limits of the
+/// format's version. Where the line is none of the program's, the answer is `WrongJudgement`, as for an entailment.
 pub fn premises_exec(
     alloc: Global,
     program: &Program,

@@ -7,32 +7,34 @@ ghost use Rattle.cyc_runs.specs.Texts.{step_text, steps_text};
 use crate::texts::faults::{fault_name, fault_number};
 use crate::texts::line::Line;
 use cyc_basics::memory::OutOfMemory;
+use goto_lang::Program;
 use heap_formula::{Judgement, RuleFault};
 use std::alloc::Global;
 use trace_pairs::{Lasso, Step};
 
-fn claim(judgement: &Judgement) -> &'static str
-    ensures { result.now ≡ claim_text judgement.now }
+fn claim(program: &Program, judgement: &Judgement) -> &'static str
+    ensures { result.now ≡ claim_text program.now judgement.now }
 {
     match judgement {
         Judgement::Entail(_, _) => "entailment",
+        Judgement::Term(_, _) if program.has_ends() => "correctness",
         Judgement::Term(_, _) => "termination",
     }
 }
 
-/// The line for a proof that is right: what kind of judgement its root has, and how many nodes and
-/// links there are.
+/// The line for a proof that is right: what its root claims of the program, and how many nodes and links there are.
 pub fn accepted_line(
     alloc: Global,
+    program: &Program,
     judgement: &Judgement,
     nodes: u64,
     links: u64,
 ) -> Result<Vec<u8>, OutOfMemory>
-    ensures { IfOk result (λ bytes. bytes.items ≡ accepted_text judgement.now nodes links) }
+    ensures { IfOk result (λ bytes. bytes.items ≡ accepted_text program.now judgement.now nodes links) }
 {
     let mut text = Line::new(alloc);
     text.text("accepted ")?;
-    text.text(claim(judgement))?;
+    text.text(claim(program, judgement))?;
     text.text(" nodes ")?;
     text.number(nodes)?;
     text.text(" links ")?;

@@ -7,10 +7,11 @@ ghost use Rattle.std.specs.Prelude.{◌≡◌, ℕ, ◌<◌, List, [], ◌∷◌
 ghost use Rattle.heap_formula.specs.Definitions.{Definition};
 ghost use Rattle.heap_formula.specs.Cells.{Cells};
 ghost use Rattle.heap_formula.specs.Meaning.{least, EntailmentHolds};
-ghost use Rattle.heap_formula.specs.Programs.{Config, Halts};
+ghost use Rattle.heap_formula.specs.Programs.{Config, EndHolds, Halts};
 ghost use Rattle.fo_logic.specs.Samples.{acyclic_segments, two_segments, one_segment, two_locals, two_of_them};
 ghost use Rattle.fo_logic.specs.Samples.{allocating, stopping, UsesItself};
-ghost use Rattle.heap_formula.specs.Symbolic.{emp};
+ghost use Rattle.heap_formula.specs.Symbolic.{SymbolicHeap, emp};
+ghost use Rattle.heap_formula.specs.declared.commands.Command.TheVariants.{Ends};
 
 pub use first_order::{a_link_needs_its_substitution, nodes_of_a_proof_are_right, terms_clash};
 
@@ -37,10 +38,18 @@ pub fn empty_entails_empty()
 
 /// A program that allocates for ever halts from no state, whatever the headroom and the number of steps.
 pub fn allocation_without_end_does_not_halt()
-    ensures { (w n : ℕ) (c : Config) → 0 < w → ¬ Halts allocating w n c }
+    ensures { (ds : List Definition) (rest : Cells) (w n : ℕ) (c : Config) → 0 < w
+        → ¬ Halts (EndHolds ds rest) allocating w n c }
 {}
 
 /// `stop` halts at once.
 pub fn stop_halts()
-    ensures { (w n : ℕ) (c : Config) → c.line ≡ 1 → Halts stopping w n c }
+    ensures { (ds : List Definition) (rest : Cells) (w n : ℕ) (c : Config) → c.line ≡ 1
+        → Halts (EndHolds ds rest) stopping w n c }
+{}
+
+/// A program that is one `stop` with an end halts from a state of its line only where the end holds there.
+pub fn an_end_has_to_hold()
+    ensures { (ds : List Definition) (rest : Cells) (bs : List SymbolicHeap) (w n : ℕ) (c : Config) → c.line ≡ 1
+        → Halts (EndHolds ds rest) (Ends bs ∷ []) w n c → EndHolds ds rest bs c }
 {}

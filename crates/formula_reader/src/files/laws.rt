@@ -2,7 +2,7 @@
 ghost use Rattle.std.specs.Prelude.{◌≡◌, ◌<◌, ◌≤◌, List, length, None};
 ghost use Rattle.heap_formula.specs.Words.{Each};
 ghost use Rattle.goto_lang.specs.Lines.{IsProgram};
-ghost use Rattle.rule_book.specs.Limits.{IsDefinitionWithin, IsJudgementWithin};
+ghost use Rattle.rule_book.specs.Limits.{IsDefinitionWithin, IsJudgementWithin, AreEndsWithin};
 ghost use Rattle.proof_syntax.specs.Grammar.{file};
 ghost use Rattle.proof_file.specs.FileNodes.{FileNode};
 ghost use Rattle.proof_file.specs.Flaws.{file_flaw};
@@ -17,6 +17,7 @@ pub fn problem_is_within(_problem: &Problem)
     ensures definitions { Each (IsDefinitionWithin _problem.now.defs.most _problem.now.defs.list)
         _problem.now.defs.list }
     ensures program { IsProgram _problem.now.program }
+    ensures ends { AreEndsWithin _problem.now.defs.most _problem.now.defs.list _problem.now.program }
     ensures goal { IsJudgementWithin _problem.now.defs.most _problem.now.defs.list
         (length _problem.now.program) _problem.now.goal }
 {}

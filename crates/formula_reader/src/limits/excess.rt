@@ -59,5 +59,7 @@ pub enum ProblemExcess {
     /// The command of this line, from 1: the version does not have it, or it names a field past those that the version
     /// allows.
     Command(usize),
+    /// The end of this line, from 1: its disjunct at this place, from 0.
+    End(usize, usize, HeapExcess),
     Goal(JudgementExcess),
 }

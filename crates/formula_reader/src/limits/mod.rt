@@ -2,6 +2,7 @@
 //! that they pass.
 
 mod definitions;
+mod ends;
 mod excess;
 mod heaps;
 mod judgements;

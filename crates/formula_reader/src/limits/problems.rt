@@ -4,6 +4,7 @@ ghost use Rattle.formula_reader.specs.Within.{IsProblemWithin};
 ghost use Rattle.formula_reader.specs.Excess.{problem_excess as excess_of_problem};
 
 use crate::limits::definitions::definitions_excess;
+use crate::limits::ends::ends_excess;
 use crate::limits::excess::ProblemExcess;
 use crate::limits::judgements::judgement_excess;
 use crate::limits::lines::lines_excess;
@@ -13,7 +14,7 @@ use heap_syntax::Version;
 use pred_defs::Defs;
 
 /// The first limit of the formats that a problem passes, in the order of its text: its definitions, its lines, its
-/// goal. None is passed exactly where the values are within all of them.
+/// ends, its goal. None is passed exactly where the values are within all of them.
 pub fn problem_excess(
     version: Version,
     defs: &Defs,
@@ -30,6 +31,9 @@ pub fn problem_excess(
     }
     let lines = program.lines();
     if let Some(excess) = lines_excess(version, defs.most(), lines) {
+        return Some(excess);
+    }
+    if let Some(excess) = ends_excess(defs, lines) {
         return Some(excess);
     }
     if let Some(excess) = judgement_excess(defs, lines.len(), goal) {

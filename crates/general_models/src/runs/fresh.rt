@@ -45,8 +45,8 @@ fn are_at_hand(address: u64, stack: &[u64], values: &[u64]) -> bool
 }
 
 /// Whether the command takes no cell with the pick at this place, or a fresh one.
-fn takes_fresh(command: Command, config: &Config, picks: &[Pick], used: usize) -> bool
-    ensures { IsTrue result ↔ TakesFresh command (address_in (slice_get picks.now used))
+fn takes_fresh(command: &Command, config: &Config, picks: &[Pick], used: usize) -> bool
+    ensures { IsTrue result ↔ TakesFresh command.now (address_in (slice_get picks.now used))
         (fields_in (slice_get picks.now used)) (state_of config.now) }
 {
     match command {
@@ -63,7 +63,8 @@ fn takes_fresh(command: Command, config: &Config, picks: &[Pick], used: usize) -
         | Command::IfEq(_, _, _)
         | Command::IfNeq(_, _, _)
         | Command::Goto(_)
-        | Command::Stop => true,
+        | Command::Stop
+        | Command::Ends(_) => true,
     }
 }
 
@@ -71,12 +72,12 @@ fn takes_fresh(command: Command, config: &Config, picks: &[Pick], used: usize) -
 fn is_fresh_from(
     first: u32,
     done: u32,
-    command: Command,
+    command: &Command,
     config: &Config,
     picks: &[Pick],
     used: usize,
 ) -> bool
-    ensures { IsTrue result ↔ (first ≤ done → TakesFresh command (address_in (slice_get picks.now used))
+    ensures { IsTrue result ↔ (first ≤ done → TakesFresh command.now (address_in (slice_get picks.now used))
         (fields_in (slice_get picks.now used)) (state_of config.now)) }
 {
     done < first || takes_fresh(command, config, picks, used)

@@ -6,7 +6,7 @@ ghost use Rattle.heap_formula.specs.Definitions.{Definition};
 ghost use Rattle.heap_formula.specs.Symbolic.{SymbolicHeap};
 ghost use Rattle.heap_formula.specs.Values.{Stack};
 ghost use Rattle.heap_formula.specs.Meaning.{Satisfies};
-ghost use Rattle.heap_formula.specs.Programs.{Config as State, MayPick, Halts, start_at, TerminationHolds};
+ghost use Rattle.heap_formula.specs.Programs.{Config as State, MayPick, EndHolds, Halts, start_at, TerminationHolds};
 ghost use Rattle.goto_lang.specs.Steps.{IsSuccessor};
 ghost use Rattle.general_models.specs.declared.runs.picks.Pick.{Pick};
 ghost use Rattle.general_models.specs.declared.runs.picks.Pick.TheVariants.{Cell};
@@ -31,8 +31,8 @@ pub fn picks_are_allowed_under_their_headroom()
 /// A run that faults, or comes back, perhaps with more, excludes that the program halts within any number of steps,
 /// under its headroom.
 pub fn refuting_runs_never_halt()
-    ensures { (lines : List Command) (w : ℕ) (picks : List Pick) (c : State) (ending : Ending)
-        → IsRefuting lines w picks c ending → (n : ℕ) → ¬ Halts lines w n c }
+    ensures { (ds : List Definition) (rest : Cells) (lines : List Command) (w : ℕ) (picks : List Pick) (c : State)
+        (ending : Ending) → IsRefuting lines w picks c ending → (n : ℕ) → ¬ Halts (EndHolds ds rest) lines w n c }
 {}
 
 /// Where some part of the heap in which such a run begins satisfies the precondition, the claim of termination does not

@@ -38,8 +38,8 @@ pub enum Move {
     None(Cause),
 }
 
-fn suits(command: Command, picks: &[Pick], used: usize) -> bool
-    ensures { result ≡ suited command (slice_get picks.now used) }
+fn suits(command: &Command, picks: &[Pick], used: usize) -> bool
+    ensures { result ≡ suited command.now (slice_get picks.now used) }
 {
     match command {
         Command::New(_, _) => matches!(picks.get(used), Some(Pick::Cell(_, _))),
@@ -51,12 +51,13 @@ fn suits(command: Command, picks: &[Pick], used: usize) -> bool
         | Command::IfEq(_, _, _)
         | Command::IfNeq(_, _, _)
         | Command::Goto(_)
-        | Command::Stop => true,
+        | Command::Stop
+        | Command::Ends(_) => true,
     }
 }
 
-pub fn picks_of(command: Command) -> usize
-    ensures { result ≡ taken_by command }
+pub fn picks_of(command: &Command) -> usize
+    ensures { result ≡ taken_by command.now }
 {
     match command {
         Command::New(_, _) | Command::IfAny(_) => 1,
@@ -67,7 +68,8 @@ pub fn picks_of(command: Command) -> usize
         | Command::IfEq(_, _, _)
         | Command::IfNeq(_, _, _)
         | Command::Goto(_)
-        | Command::Stop => 0,
+        | Command::Stop
+        | Command::Ends(_) => 0,
     }
 }
 

@@ -1,19 +1,13 @@
-// Values of lines that are a program.
-ghost use Rattle.std.specs.Prelude.{◌≡◌, ◌<◌, map, IfOk, None};
-ghost use Rattle.heap_formula.specs.Words.{Each};
+// Values of the commands of lines.
+ghost use Rattle.std.specs.Prelude.{◌≡◌, ◌<◌};
 ghost use Rattle.heap_syntax.specs.declared.lines.tree.CommandTree.TheVariants.{If};
-ghost use Rattle.goto_lang.specs.Faults.{program_fault};
-ghost use Rattle.goto_lang.specs.Lines.{commands_of};
 ghost use Rattle.heap_reader.specs.Small.{IsSmallTerm};
-ghost use Rattle.heap_reader.specs.LineSmall.{IsSmallCommand, IsSmallLine};
-ghost use Rattle.heap_reader.specs.LineValues.{operand_value, change_value, command_value, line_value};
+ghost use Rattle.heap_reader.specs.LineSmall.{IsSmallCommand};
+ghost use Rattle.heap_reader.specs.LineValues.{operand_value, change_value, command_value};
 
 use crate::lines::form::VariableReader;
-use cyc_basics::memory::OutOfMemory;
-use goto_lang::Program;
 use heap_formula::{Command, Term};
-use heap_syntax::lines::{ChangeTree, CommandTree, LineTree, OperandTree};
-use std::alloc::Global;
+use heap_syntax::lines::{ChangeTree, CommandTree, OperandTree};
 
 fn operand<F: VariableReader>(form: &F, tree: OperandTree<F::Variable>) -> Term
     requires { IsSmallTerm (operand_value F.value tree) }
@@ -59,7 +53,8 @@ fn branch<F: VariableReader>(
     }
 }
 
-fn command<F: VariableReader>(form: &F, tree: CommandTree<F::Variable>) -> Command
+/// The command that a tree says.
+pub fn command<F: VariableReader>(form: &F, tree: CommandTree<F::Variable>) -> Command
     requires { IsSmallCommand (command_value F.value tree) }
     ensures { result ≡ command_value F.value tree }
 {
@@ -75,49 +70,5 @@ fn command<F: VariableReader>(form: &F, tree: CommandTree<F::Variable>) -> Comma
             Command::Store(Term::Nil, field as u8, operand(form, value))
         }
         CommandTree::Change(variable, tree) => change(form, form.value(variable), tree),
-    }
-}
-
-fn numbered_commands<F: VariableReader>(
-    alloc: Global,
-    form: &F,
-    lines: &[LineTree<F::Variable>],
-) -> Result<Vec<(u32, Command)>, OutOfMemory>
-    requires { Each IsSmallLine (map (line_value F.value) lines.now) }
-    ensures { IfOk result (λ v. v.items ≡ map (line_value F.value) lines.now) }
-{
-    let mut made = Vec::with_capacity(alloc, lines.len())?;
-    for line in lines {
-        made.push((line.number, command(form, line.command)))?;
-    }
-    Ok(made)
-}
-
-/// The commands of lines, each with its line's number, where they are a program.
-pub fn commands<F: VariableReader>(
-    alloc: Global,
-    form: &F,
-    lines: &[LineTree<F::Variable>],
-) -> Result<Vec<(u32, Command)>, OutOfMemory>
-    requires { program_fault (map (line_value F.value) lines.now) ≡ None }
-    ensures { IfOk result (λ v. v.items ≡ map (line_value F.value) lines.now) }
-{
-    numbered_commands(alloc, form, lines)
-}
-
-/// The program that lines say, where they are one.
-pub fn program<F: VariableReader>(
-    alloc: Global,
-    form: &F,
-    lines: &[LineTree<F::Variable>],
-) -> Result<Program, OutOfMemory>
-    requires { program_fault (map (line_value F.value) lines.now) ≡ None }
-    ensures { IfOk result (λ p. p ≡ commands_of (map (line_value F.value) lines.now)) }
-{
-    let made = commands(alloc, form, lines)?;
-    match Program::new(alloc, &made) {
-        Ok(program) => Ok(program),
-        // memory alone can be wanting: the lines are a program
-        Err(_) => Err(OutOfMemory),
     }
 }

@@ -19,6 +19,9 @@ pub type SpatialTree<'a> = crate::SpatialTree<'a, TermTree>;
 /// A symbolic heap over these terms.
 pub type HeapTree<'a> = crate::HeapTree<'a, TermTree>;
 
+/// An end over these terms.
+pub type EndTree<'a> = crate::ends::EndTree<'a, TermTree>;
+
 /// The definition of a predicate, which has at least one case.
 #[derive(Drop)]
 pub struct DefinitionTree<'a> {

@@ -1,10 +1,11 @@
 // A base pair is taken in.
-ghost use Rattle.std.specs.Prelude.{◌≡◌, ◌<◌, IfOk};
+ghost use Rattle.std.specs.Prelude.{◌≡◌, ◌<◌, ◌≤◌, IfOk, length};
+ghost use Rattle.pair_family.specs.Combination.{upto};
 ghost use Rattle.pair_family.specs.Labels.{said_by, labels_at, combined_pairs, combined, IfApart};
 
 use crate::states::known::Known;
 use crate::states::labels::{
-    are_apart, cell_numbers, fill_differences, fill_labels, fill_numbers, join_both,
+    are_apart, are_first, cell_numbers, fill_differences, fill_labels, fill_numbers, join_both,
 };
 use crate::states::near::differing_set;
 use crate::states::pairs::same_set;
@@ -47,6 +48,39 @@ fn say(
     Ok(Known::of_sets(same, differ, cells))
 }
 
+/// What is said of as many labels as there are numbers, where these are the first ones.
+fn say_first(
+    alloc: Global,
+    labels: &[u64],
+    differences: &[(u64, u64)],
+    cells: &[u64],
+    numbers: &[usize],
+) -> Result<Known, AllocError>
+    requires first { numbers.now ≡ upto (length numbers.now) }
+    requires few { length numbers.now ≤ length labels.now }
+    ensures { IfOk result (λ k. k ≡ said_by (labels_at labels.now numbers.now) differences.now cells.now) }
+{
+    say(alloc, &labels[..numbers.len()], differences, cells)
+}
+
+/// What is said of the labels of some numbers.
+fn say_of(
+    alloc: Global,
+    kept_labels: &mut Vec<u64>,
+    labels: &[u64],
+    differences: &[(u64, u64)],
+    cells: &[u64],
+    kept: &[usize],
+) -> Result<Known, AllocError>
+    ensures { IfOk result (λ k. k ≡ said_by (labels_at labels.now kept.now) differences.now cells.now) }
+{
+    if kept.len() <= labels.len() && are_first(kept) {
+        return say_first(alloc, labels, differences, cells, kept);
+    }
+    fill_labels(kept_labels, labels, kept)?;
+    say(alloc, kept_labels, differences, cells)
+}
+
 /// What is said of labels, those of some numbers, unless a difference is within a class.
 fn tell(
     alloc: Global,
@@ -62,8 +96,7 @@ fn tell(
     if !are_apart(differences) {
         return Ok(None);
     }
-    fill_labels(kept_labels, labels, kept)?;
-    let known = say(alloc, kept_labels, differences, cells)?;
+    let known = say_of(alloc, kept_labels, labels, differences, cells, kept)?;
     Ok(Some(known))
 }
 

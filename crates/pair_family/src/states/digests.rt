@@ -6,7 +6,7 @@ ghost use Rattle.pair_family.specs.Equality.{with_number, numbers_digest, pairs_
 const DIGEST_FACTOR: u64 = 0x9e37_79b9_7f4a_7c15;
 
 /// A digest after one more number.
-fn digest_with(digest: u64, number: u64) -> u64
+pub fn digest_with(digest: u64, number: u64) -> u64
     ensures { result ≡ with_number digest number }
 {
     digest.wrapping_add(number).wrapping_mul(DIGEST_FACTOR)

@@ -1,7 +1,7 @@
 // What is known of some terms.
 ghost use Rattle.std.specs.Prelude.{◌≡◌, ◌<◌, ◌+◌, MatchOption};
 
-use crate::states::digests::digest_of;
+use crate::states::digests::{digest_of, digest_with};
 use crate::states::pairs::PairSet;
 use std::alloc::AllocError;
 use std::hash::{Hash, Hasher};
@@ -51,9 +51,8 @@ impl Hash for Known {
     ghost respects_eq = { base_pair_alike };
 
     fn hash<H: Hasher>(&self, state: &mut H) {
-        self.same.digest().hash(state);
-        self.differ.digest().hash(state);
-        digest_of(&self.cells).hash(state);
+        let pairs = digest_with(digest_with(0, self.same.digest()), self.differ.digest());
+        digest_with(pairs, digest_of(&self.cells)).hash(state);
     }
 }
 

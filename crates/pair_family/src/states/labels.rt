@@ -301,6 +301,19 @@ pub fn fill_labels(out: &mut Vec<u64>, labels: &[u64], numbers: &[usize]) -> Res
     Ok(())
 }
 
+/// Whether the numbers are the first ones, in their order.
+#[tactic(auto, using(crate::proofs::Rows::first_next))]
+pub fn are_first(numbers: &[usize]) -> bool
+    ensures { IsTrue result → numbers.now ≡ upto (length numbers.now) }
+{
+    for (i, number) in numbers.iter().enumerate() {
+        if *number != i {
+            return false;
+        }
+    }
+    true
+}
+
 /// The labels of the pairs of a mask.
 pub fn push_masked_pairs(
     out: &mut Vec<(u64, u64)>,

@@ -7,9 +7,10 @@ ghost use Rattle.problem_syntax.specs.Numbering.{universals};
 ghost use Rattle.problem_syntax.specs.NameViews.{name_of};
 ghost use Rattle.problem_syntax.specs.ByNumber.{IsByNumber};
 
+use crate::names::ends::with_ends;
 use crate::names::heaps::{with_disjuncts, with_heap};
 use crate::names::names::{ProblemName, first_names};
-use crate::names::programs::program_names;
+use crate::names::programs::lines_names;
 use crate::{GoalTree, ProblemTree};
 use cyc_basics::memory::OutOfMemory;
 use std::alloc::Global;
@@ -38,7 +39,8 @@ fn universal_names<'a>(
 ) -> Result<Vec<ProblemName<'a>>, OutOfMemory>
     ensures { IfOk result (λ v. map name_of v.items ≡ universals (problem_of tree.now)) }
 {
-    let uses = with_goal(alloc, program_names(alloc, &tree.lines)?, &tree.goal)?;
+    let program = with_ends(alloc, lines_names(alloc, &tree.lines)?, &tree.ends)?;
+    let uses = with_goal(alloc, program, &tree.goal)?;
     first_names(alloc, &uses)
 }
 

@@ -1,6 +1,7 @@
 //! The author's names of a goal's variables by their numbers. The numbers are those that `name_numbers` puts in the
 //! place of the names.
 
+mod ends;
 mod goals;
 mod heaps;
 mod names;

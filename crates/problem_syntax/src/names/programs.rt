@@ -6,7 +6,7 @@ ghost use Rattle.heap_syntax.specs.LineTrees.{operand_of, change_of, command_of}
 ghost use Rattle.problem_syntax.specs.Trees.{text_of, line_of};
 ghost use Rattle.problem_syntax.specs.Occurrences.{plain, operand_names as names_of_operand};
 ghost use Rattle.problem_syntax.specs.Occurrences.{change_names as names_of_change, command_names as names_of_command};
-ghost use Rattle.problem_syntax.specs.Occurrences.{program_names as names_of_program};
+ghost use Rattle.problem_syntax.specs.Occurrences.{lines_names as names_of_lines};
 ghost use Rattle.problem_syntax.specs.NameViews.{name_of};
 
 use crate::LineTree;
@@ -77,11 +77,11 @@ fn with_command<'a>(
 }
 
 /// The names of the lines of a program.
-pub fn program_names<'a>(
+pub fn lines_names<'a>(
     alloc: Global,
     lines: &[LineTree<'a>],
 ) -> Result<Vec<ProblemName<'a>>, OutOfMemory>
-    ensures { IfOk result (λ v. map name_of v.items ≡ names_of_program (map line_of lines.now)) }
+    ensures { IfOk result (λ v. map name_of v.items ≡ names_of_lines (map line_of lines.now)) }
 {
     let mut names = Vec::new(alloc);
     for line in lines {

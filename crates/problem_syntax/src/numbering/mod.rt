@@ -2,6 +2,8 @@
 //! of first occurrence.
 
 mod definitions;
+mod disjuncts;
+mod ends;
 mod heaps;
 mod names;
 mod occurrences;
@@ -11,4 +13,6 @@ mod scope;
 mod tree;
 
 pub use problems::number_problem;
-pub use tree::{NumberedDefinition, NumberedGoal, NumberedHeap, NumberedProblem, NumberedTerm};
+pub use tree::{
+    NumberedDefinition, NumberedEnd, NumberedGoal, NumberedHeap, NumberedProblem, NumberedTerm,
+};

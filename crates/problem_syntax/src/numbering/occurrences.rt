@@ -222,7 +222,7 @@ fn command_names<'a>(
 }
 
 /// The names of the lines of a program.
-pub fn program_names<'a>(
+pub fn lines_names<'a>(
     alloc: Global,
     lines: &[LineTree<'a>],
 ) -> Result<Vec<NameUse<'a>>, OutOfMemory>

@@ -1,41 +1,25 @@
 //! Goals and whole problems with numbers in place of names.
 
 ghost use Rattle.std.specs.Prelude.{◌≡◌, ◌++◌, map, IfOk};
-ghost use Rattle.std.specs.List.{flat_map};
 ghost use Rattle.problem_syntax.specs.Trees as named;
 ghost use Rattle.problem_syntax.specs.Names.{firsts};
-ghost use Rattle.problem_syntax.specs.Occurrences.{plain_names, goal_names as names_of_goal};
-ghost use Rattle.problem_syntax.specs.Numbered.{heap_of, goal_of, problem_of};
-ghost use Rattle.problem_syntax.specs.Numbering.{disjunct as disjunct_number, goal as goal_number, numbered};
+ghost use Rattle.problem_syntax.specs.Occurrences.{program_names, goal_names as names_of_goal};
+ghost use Rattle.problem_syntax.specs.Numbered.{end_of, goal_of, problem_of};
+ghost use Rattle.problem_syntax.specs.Numbering.{line as line_number, end as end_number, goal as goal_number, numbered};
 ghost use Rattle.problem_syntax.specs.Views.{name_of, names_of};
 
 use crate::numbering::definitions::definitions;
+use crate::numbering::disjuncts::{disjuncts, with_disjunct_names};
+use crate::numbering::ends::{ends, with_ends_names};
 use crate::numbering::heaps::heap;
 use crate::numbering::names::{NameUse, Names, first_names};
-use crate::numbering::occurrences::{
-    heap_names, primed_names, program_names, with_heap_names, with_plain_names,
-};
+use crate::numbering::occurrences::{lines_names, with_heap_names};
 use crate::numbering::programs::lines;
 use crate::numbering::scope::Scope;
-use crate::numbering::tree::{NumberedGoal, NumberedHeap, NumberedProblem};
-use crate::{GoalTree, HeapTree, ProblemTree};
+use crate::numbering::tree::{NumberedEnd, NumberedGoal, NumberedProblem};
+use crate::{GoalTree, ProblemTree};
 use cyc_basics::memory::OutOfMemory;
 use std::alloc::Global;
-
-/// The names with the plain ones of these heaps after them.
-fn with_disjunct_names<'a>(
-    alloc: Global,
-    mut names: Vec<NameUse<'a>>,
-    trees: &[HeapTree<'a>],
-) -> Result<Vec<NameUse<'a>>, OutOfMemory>
-    ensures { IfOk result (λ v. map name_of v.items
-        ≡ map name_of names.entry.items ++ flat_map plain_names (map named.heap_of trees.now)) }
-{
-    for tree in trees {
-        names = with_plain_names(names, &heap_names(alloc, tree)?)?;
-    }
-    Ok(names)
-}
 
 /// The names with those of a goal's universal variables after them.
 fn with_goal_names<'a>(
@@ -52,34 +36,6 @@ fn with_goal_names<'a>(
         }
         GoalTree::From(_, state) => with_heap_names(names, state),
     }
-}
-
-#[tactic(auto, unfolding(crate::specs::Numbering::disjunct))]
-fn disjunct<'a>(
-    alloc: Global,
-    universals: &Names<'a>,
-    tree: &HeapTree<'a>,
-) -> Result<NumberedHeap<'a>, OutOfMemory>
-    ensures { IfOk result (λ h. heap_of h ≡ disjunct_number (names_of universals.now) (named.heap_of tree.now)) }
-{
-    let uses = heap_names(alloc, tree)?;
-    let existentials = first_names(alloc, &primed_names(alloc, &uses)?)?;
-    heap(alloc, &Scope::Disjunct(universals, &existentials), tree)
-}
-
-fn disjuncts<'a>(
-    alloc: Global,
-    universals: &Names<'a>,
-    trees: &[HeapTree<'a>],
-) -> Result<Vec<NumberedHeap<'a>>, OutOfMemory>
-    ensures { IfOk result (λ v. map heap_of v.items
-        ≡ map (disjunct_number (names_of universals.now)) (map named.heap_of trees.now)) }
-{
-    let mut heaps = Vec::with_capacity(alloc, trees.len())?;
-    for tree in trees {
-        heaps.push(disjunct(alloc, universals, tree)?)?;
-    }
-    Ok(heaps)
 }
 
 fn goal<'a>(
@@ -116,24 +72,57 @@ fn goal_behind<'a>(
     goal(alloc, &universals, tree)
 }
 
-/// The program's lines, and the goal.
-fn lines_and_goal<'a>(
+/// The lines and the ends of a program.
+type Program<'a> = (
+    Vec<heap_syntax::lines::LineTree<usize>>,
+    Vec<NumberedEnd<'a>>,
+);
+
+/// The names of the program.
+fn names_of_program<'a>(
     alloc: Global,
     tree: &ProblemTree<'a>,
-) -> Result<(Vec<heap_syntax::lines::LineTree<usize>>, NumberedGoal<'a>), OutOfMemory>
-    ensures lines { IfOk result (λ r. r.0.items ≡ (numbered (named.problem_of tree.now)).lines) }
+) -> Result<Vec<NameUse<'a>>, OutOfMemory>
+    ensures { IfOk result (λ v. map name_of v.items ≡ program_names (named.problem_of tree.now)) }
+{
+    with_ends_names(alloc, lines_names(alloc, &tree.lines)?, &tree.ends)
+}
+
+fn program<'a>(
+    alloc: Global,
+    variables: &Names<'a>,
+    tree: &ProblemTree<'a>,
+) -> Result<Program<'a>, OutOfMemory>
+    ensures lines { IfOk result (λ r. r.0.items
+        ≡ map (line_number (names_of variables.now)) (named.problem_of tree.now).lines) }
+    ensures ends { IfOk result (λ r. map end_of r.1.items
+        ≡ map (end_number (names_of variables.now)) (named.problem_of tree.now).ends) }
+{
+    let lines = lines(alloc, variables, &tree.lines)?;
+    let ends = ends(alloc, variables, &tree.ends)?;
+    Ok((lines, ends))
+}
+
+/// The program, and the goal.
+fn program_and_goal<'a>(
+    alloc: Global,
+    tree: &ProblemTree<'a>,
+) -> Result<(Program<'a>, NumberedGoal<'a>), OutOfMemory>
+    ensures lines { IfOk result (λ r. r.0.0.items ≡ (numbered (named.problem_of tree.now)).lines) }
+    ensures ends { IfOk result (λ r. map end_of r.0.1.items ≡ (numbered (named.problem_of tree.now)).ends) }
     ensures goal { IfOk result (λ r. goal_of r.1 ≡ (numbered (named.problem_of tree.now)).goal) }
 {
-    let uses = program_names(alloc, &tree.lines)?;
+    let uses = names_of_program(alloc, tree)?;
     let variables = first_names(alloc, &uses)?;
-    let lines = lines(alloc, &variables, &tree.lines)?;
+    let program = program(alloc, &variables, tree)?;
     let goal = goal_behind(alloc, uses, &tree.goal)?;
-    Ok((lines, goal))
+    Ok((program, goal))
 }
 
 /// The problem with numbers in place of its names. In a case a name is a parameter if it is one, and else a local, with
-/// a number of its own in this case. The variables of the program are numbered over its lines, the other universal
-/// variables of the goal after them, those of the antecedent first, and existential variables in each disjunct.
+/// a number of its own in this case. The variables of the program are numbered over its lines and then over its ends,
+/// the other universal variables of the goal after them, those of the antecedent first, and existential variables in
+/// each disjunct.
 pub fn number_problem<'a>(
     alloc: Global,
     tree: &ProblemTree<'a>,
@@ -141,11 +130,12 @@ pub fn number_problem<'a>(
     ensures { IfOk result (λ p. problem_of p ≡ numbered (named.problem_of tree.now)) }
 {
     let definitions = definitions(alloc, &tree.definitions)?;
-    let (lines, goal) = lines_and_goal(alloc, tree)?;
+    let ((lines, ends), goal) = program_and_goal(alloc, tree)?;
     Ok(NumberedProblem {
         version: tree.version,
         definitions,
         lines,
+        ends,
         goal,
     })
 }

@@ -15,6 +15,9 @@ pub enum NumberedTerm {
 /// A symbolic heap over numbered terms.
 pub type NumberedHeap<'a> = heap_syntax::HeapTree<'a, NumberedTerm>;
 
+/// An end of the program.
+pub type NumberedEnd<'a> = heap_syntax::ends::EndTree<'a, NumberedTerm>;
+
 /// The definition of a predicate, with its parameters' names and its cases.
 #[derive(Drop)]
 pub struct NumberedDefinition<'a> {
@@ -38,5 +41,6 @@ pub struct NumberedProblem<'a> {
     pub version: Version,
     pub definitions: Vec<NumberedDefinition<'a>>,
     pub lines: Vec<heap_syntax::lines::LineTree<usize>>,
+    pub ends: Vec<NumberedEnd<'a>>,
     pub goal: NumberedGoal<'a>,
 }

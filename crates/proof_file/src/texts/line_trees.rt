@@ -30,33 +30,33 @@ fn store(address: Term, field: u8, value: Term) -> CommandTree<u32>
     }
 }
 
-fn command(value: Command) -> CommandTree<u32>
-    ensures { result ≡ command_tree value }
+fn command(value: &Command) -> CommandTree<u32>
+    ensures { result ≡ command_tree value.now }
 {
     match value {
-        Command::Stop => CommandTree::Stop,
-        Command::IfAny(target) => CommandTree::IfAny(target),
-        Command::Goto(target) => CommandTree::Goto(target),
-        Command::Free(address) => CommandTree::Free(operand(address)),
+        Command::Stop | Command::Ends(_) => CommandTree::Stop,
+        Command::IfAny(target) => CommandTree::IfAny(*target),
+        Command::Goto(target) => CommandTree::Goto(*target),
+        Command::Free(address) => CommandTree::Free(operand(*address)),
         Command::IfEq(left, right, target) => {
-            CommandTree::If(operand(left), true, operand(right), target)
+            CommandTree::If(operand(*left), true, operand(*right), *target)
         }
         Command::IfNeq(left, right, target) => {
-            CommandTree::If(operand(left), false, operand(right), target)
+            CommandTree::If(operand(*left), false, operand(*right), *target)
         }
         Command::New(x, fields) => {
-            CommandTree::Change(u32::from(x), ChangeTree::New(u32::from(fields)))
+            CommandTree::Change(u32::from(*x), ChangeTree::New(u32::from(*fields)))
         }
         Command::Assign(x, value) => {
-            CommandTree::Change(u32::from(x), ChangeTree::Assign(operand(value)))
+            CommandTree::Change(u32::from(*x), ChangeTree::Assign(operand(*value)))
         }
         Command::Load(x, address, field) => {
             CommandTree::Change(
-                u32::from(x),
-                ChangeTree::Load(operand(address), u32::from(field)),
+                u32::from(*x),
+                ChangeTree::Load(operand(*address), u32::from(*field)),
             )
         }
-        Command::Store(address, field, value) => store(address, field, value),
+        Command::Store(address, field, value) => store(*address, *field, *value),
     }
 }
 
@@ -69,7 +69,7 @@ pub fn lines(alloc: Global, program: &Program) -> Result<Vec<LineTree>, OutOfMem
     for (i, value) in commands.iter().enumerate() {
         trees.push(LineTree {
             number: i as u32 + 1,
-            command: command(*value),
+            command: command(value),
         })?;
     }
     Ok(trees)

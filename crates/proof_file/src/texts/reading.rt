@@ -27,7 +27,14 @@ fn file_of_tree(
     requires right { first_flaw (file_of tree.now) ≡ None }
     ensures { IfOk result (IsFileOf (file_of tree.now)) }
 {
-    let front = front_values(alloc, heads, tree.version, &tree.definitions, &tree.lines)?;
+    let front = front_values(
+        alloc,
+        heads,
+        tree.version,
+        &tree.definitions,
+        &tree.lines,
+        &tree.ends,
+    )?;
     let nodes = nodes(alloc, heads, &tree.nodes)?;
     Ok(file_of_values(tree.version, front.defs, front.program, nodes))
 }

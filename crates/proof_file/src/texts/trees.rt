@@ -9,6 +9,7 @@ use crate::{FileNode, ProofFile};
 use cyc_basics::memory::OutOfMemory;
 use heap_formula::{Def, Judgement, Link, Reason, Rule, Side, Term};
 use heap_reader::definitions::{definition_trees, heap_tree, heap_trees, term_tree};
+use heap_reader::ends::end_trees;
 use proof_syntax::{
     EntailmentTree, FileTree, JudgementTree, LinkTree, NodeTree, PairTree, ReasonTree, SideTree,
 };
@@ -141,11 +142,13 @@ pub fn file_tree<'a>(alloc: Global, file: &'a ProofFile) -> Result<FileTree<'a>,
     let defs = file.defs.as_slice();
     let definitions = definition_trees(alloc, defs)?;
     let lines = lines(alloc, &file.program)?;
+    let ends = end_trees(alloc, defs, &file.program)?;
     let nodes = nodes(alloc, defs, file.nodes.as_slice())?;
     Ok(FileTree {
         version: file.version,
         definitions,
         lines,
+        ends,
         nodes,
     })
 }

@@ -10,7 +10,8 @@ ghost use Rattle.proof_file.specs.Flaws.{headings, node_flaw, first_node, file_f
 
 use crate::{ProgramVariables, walk_node};
 use cyc_basics::limits::Limits;
-use heap_reader::definitions::walk_definitions;
+use heap_reader::definitions::{Scope, walk_definitions};
+use heap_reader::ends::walk_ends;
 use heap_reader::lines::walk_lines;
 use heap_reader::{Flaw, Heads};
 use proof_syntax::{FileTree, NodeTree};
@@ -33,7 +34,7 @@ fn nodes(
     Ok(next)
 }
 
-/// Definitions, lines and nodes, from the fourth token on.
+/// Definitions, lines, ends and nodes, from the fourth token on.
 fn statements(heads: &Heads<'_>, tree: &FileTree<'_>) -> Result<usize, Flaw>
     requires known { heads.now ≡ headings (file_of tree.now).definitions }
     requires fits { first_node (file_of tree.now) + total node_span (map node_of tree.now.nodes.items) < 2 ^ 64 }
@@ -42,7 +43,8 @@ fn statements(heads: &Heads<'_>, tree: &FileTree<'_>) -> Result<usize, Flaw>
 {
     let most = tree.version.limits();
     let first_line = walk_definitions(heads, most, 4, &tree.definitions)?;
-    let first_node = walk_lines(&ProgramVariables, most, first_line, &tree.lines)?;
+    let first_end = walk_lines(&ProgramVariables, most, first_line, &tree.lines)?;
+    let first_node = walk_ends(heads, &Scope::End, most, &tree.lines, first_end, &tree.ends)?;
     nodes(heads, most, tree.lines.len(), first_node, &tree.nodes)
 }
 

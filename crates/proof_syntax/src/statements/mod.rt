@@ -10,9 +10,9 @@ ghost use Rattle.proof_syntax.specs.Left.{next, join, joined};
 ghost use Rattle.heap_syntax.specs.declared.keep.Keep.{Keep};
 
 pub use read_statements::{
-    first_statement, kept_line_or_node, kept_node_or_end, kept_pred_or_later,
+    first_statement, kept_end_or_node, kept_line_or_later, kept_node_or_last, kept_pred_or_later,
 };
-pub use tree::{LineOrNode, NodeOrEnd, PredOrLater};
+pub use tree::{EndOrNode, LineOrLater, NodeOrLast, PredOrLater};
 
 /// A statement comes off the front of what is left of a file: whatever words follow, what is read of all is the
 /// statement, joined with what is read of those words as what is left after it.

@@ -1,24 +1,31 @@
 //! Statements as trees, where one of several kinds may come.
 
-use crate::{DefinitionTree, LineTree, NodeTree};
+use crate::{DefinitionTree, EndTree, LineTree, NodeTree};
+
+/// A statement that may come after an end.
+#[derive(Drop)]
+pub enum EndOrNode<'a> {
+    End(EndTree<'a>),
+    Node(NodeTree<'a>),
+}
 
 /// A statement that may come after a line.
 #[derive(Drop)]
-pub enum LineOrNode<'a> {
+pub enum LineOrLater<'a> {
     Line(LineTree),
-    Node(NodeTree<'a>),
+    Later(EndOrNode<'a>),
 }
 
 /// A statement that may come after the first one or a definition.
 #[derive(Drop)]
 pub enum PredOrLater<'a> {
     Pred(DefinitionTree<'a>),
-    Later(LineOrNode<'a>),
+    Later(LineOrLater<'a>),
 }
 
 /// A statement that may come after a node.
 #[derive(Drop)]
-pub enum NodeOrEnd<'a> {
+pub enum NodeOrLast<'a> {
     Node(NodeTree<'a>),
-    End,
+    Last,
 }

@@ -15,7 +15,9 @@ use crate::{
 };
 use cyc_basics::memory::OutOfMemory;
 use cyc_lex::WordWriter;
-use heap_syntax::writing::{write_definitions, write_heap, write_heaps, write_premises};
+use heap_syntax::writing::{
+    write_definitions, write_ends, write_heap, write_heaps, write_premises,
+};
 use heap_syntax::{Mark, Version, write_version};
 use std::alloc::Global;
 
@@ -121,6 +123,7 @@ fn write_body(tree: &FileTree<'_>, writer: &mut WordWriter) -> Result<(), OutOfM
     writer.symbol(";")?;
     write_definitions(&tree.definitions, writer)?;
     write_lines(tree.version, &tree.lines, writer)?;
+    write_ends(tree.version, &tree.ends, writer)?;
     write_nodes(&tree.nodes, writer)?;
     writer.symbol(";")
 }

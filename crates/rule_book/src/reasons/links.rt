@@ -6,6 +6,7 @@ ghost use Rattle.heap_formula.specs.Positions.{pairs_from};
 ghost use Rattle.heap_formula.specs.Words.{Each};
 ghost use Rattle.rule_table.specs.Answered.{IsAnswer};
 ghost use Rattle.rule_table.specs.LinkTable.{link_premise as companion_premise};
+ghost use Rattle.rule_table.specs.RuleBook.{leaves_nothing as nothing_is_over, program_link_fault};
 ghost use Rattle.rule_table.specs.Soundness.{AreUniversal};
 ghost use Rattle.rule_book.specs.Answers.{entry_of, link_answer};
 
@@ -14,7 +15,7 @@ use back_links::link_fault;
 use cyc_basics::limits::MOST_SPATIAL;
 use cyc_basics::memory::OutOfMemory;
 use goto_lang::Program;
-use heap_formula::{Judgement, Link, Pair, Pairs, Premise, RuleError, Spatial};
+use heap_formula::{Judgement, Link, Pair, Pairs, Premise, RuleError, RuleFault, Spatial};
 use rule_table::{antecedent, one_premise};
 use std::alloc::Global;
 
@@ -61,6 +62,37 @@ fn link_premise(alloc: Global, companion: &Judgement, link: &Link) -> Result<Pre
     Ok(Premise { judgement, pairs })
 }
 
+/// Whether no atom of the bud's is over at a link to the companion, or the program has no end: an end speaks of the
+/// whole part.
+pub fn leaves_nothing(program: &Program, bud: &Judgement, companion: &Judgement) -> bool
+    ensures { result ≡ nothing_is_over program.now bud.now companion.now }
+{
+    match (bud, companion) {
+        (Judgement::Term(_, a), Judgement::Term(_, b)) => {
+            !program.has_ends() || a.spatial().len() <= b.spatial().len()
+        }
+        _ => true,
+    }
+}
+
+/// The first fault of a link between judgements on the program.
+fn fault_of_link(
+    program: &Program,
+    bud: &Judgement,
+    companion: &Judgement,
+    link: &Link,
+) -> Option<RuleFault>
+    ensures { result ≡ program_link_fault program.now bud.now companion.now link.now }
+{
+    if let Some(fault) = link_fault(bud, companion, link, variables_of(program, bud)) {
+        return Some(fault);
+    }
+    if leaves_nothing(program, bud, companion) {
+        return None;
+    }
+    Some(RuleFault::LinkSpatial(antecedent(companion).spatial().len() as u32))
+}
+
 /// The premise of a link from a bud to its companion, or the first fault.
 pub(crate) fn premises_by_link(
     alloc: Global,
@@ -74,8 +106,7 @@ pub(crate) fn premises_by_link(
         → IsLocallySound ds program.now bud.now v.items) }
 {
     let _atoms = antecedent(bud).spatial();
-    let p = variables_of(program, bud);
-    if let Some(fault) = link_fault(bud, companion, link, p) {
+    if let Some(fault) = fault_of_link(program, bud, companion, link) {
         return Err(RuleError::Fault(fault));
     }
     let premise = link_premise(alloc, companion, link)?;

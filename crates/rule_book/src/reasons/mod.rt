@@ -13,6 +13,7 @@ ghost use Rattle.rule_book.specs.Answers.{reason_answer};
 use crate::premises;
 use goto_lang::Program;
 use heap_formula::{Judgement, Premise, Reason, RuleError, RuleFault};
+pub use links::leaves_nothing;
 use links::premises_by_link;
 use pred_defs::Defs;
 pub use separation_logic::{SeparationLogic, traced_pairs};

@@ -8,10 +8,12 @@ ghost use Rattle.run_file.specs.Limits.{is_short_run};
 ghost use Rattle.run_file.specs.Places.{is_short_place};
 
 use crate::Outcome;
+use crate::read_runs::has_breaks;
 use cyc_basics::limits::{Limits, MOST_VALUES};
 use cyc_basics::memory::OutOfMemory;
 use general_models::runs::{Pick, ValuePair};
 use goto_lang::Cells;
+use model_file::ModelVersion;
 use std::alloc::Global;
 
 fn is_short_number(number: u64) -> bool
@@ -104,8 +106,8 @@ fn are_short_pairs(pairs: &[ValuePair]) -> bool
     !pairs.is_empty() && are_all_short(pairs)
 }
 
-fn is_short_outcome(outcome: &Outcome) -> bool
-    ensures { result ≡ is_short_outcome outcome.now }
+fn is_short_outcome(version: ModelVersion, outcome: &Outcome) -> bool
+    ensures { result ≡ is_short_outcome version outcome.now }
 {
     match outcome {
         Outcome::Faults { line, step } => are_both_short(*line, *step),
@@ -114,25 +116,27 @@ fn is_short_outcome(outcome: &Outcome) -> bool
             are_both_short(growth.first, growth.again)
                 && are_short_pairs(growth.renaming.as_slice())
         }
+        Outcome::Breaks { step } => has_breaks(version) && is_short_number(u64::from(*step)),
     }
 }
 
-/// Whether a run file within these limits may have the stack, the heap, the picks and the outcome.
+/// Whether a run file of the version may have the stack, the heap, the picks and the outcome.
 pub fn is_short_run(
     alloc: Global,
-    most: Limits,
+    version: ModelVersion,
     stack: &[u64],
     heap: &Cells,
     picks: &[Pick],
     outcome: &Outcome,
 ) -> Result<bool, OutOfMemory>
-    ensures { IfOk result (λ b. b ≡ is_short_run most stack.now heap.now picks.now outcome.now) }
+    ensures { IfOk result (λ b. b ≡ is_short_run version stack.now heap.now picks.now outcome.now) }
 {
+    let most = version.limits();
     let is_short = is_short_heap(alloc, most, heap)?;
     Ok(
         is_short_stack(stack)
             && is_short
             && are_short_picks(most, picks)
-            && is_short_outcome(outcome),
+            && is_short_outcome(version, outcome),
     )
 }

@@ -1,7 +1,7 @@
 // A problem's definitions, program and claim, and a run, as a run file.
 ghost use Rattle.std.specs.Prelude.{◌≡◌, true, IfOk, MatchOption};
 ghost use Rattle.heap_formula.specs.declared.judgements.Judgement.{Judgement};
-ghost use Rattle.model_file.specs.Versions.{model_limits, version_for};
+ghost use Rattle.model_file.specs.Versions.{version_for};
 ghost use Rattle.run_file.specs.Limits.{is_short_run as has_room};
 ghost use Rattle.run_file.specs.Runs.{HasFile, IsRunFor};
 
@@ -26,8 +26,7 @@ fn run_of_claim(
     outcome: Outcome,
 ) -> Result<RunFile, OutOfMemory>
     requires claim { problem.now.goal ≡ Judgement.Term line precondition.now }
-    requires room { has_room (model_limits (version_for problem.now.version)) stack.items heap picks.items outcome
-        ≡ true }
+    requires room { has_room (version_for problem.now.version) stack.items heap picks.items outcome ≡ true }
     ensures { IfOk result (IsRunFor problem.now stack.items heap picks.items outcome) }
 {
     let version = ModelVersion::for_version(problem.version);
@@ -51,8 +50,8 @@ fn run_of_claim(
 /// The run file with copies of the problem's definitions and program, its claim, and this run; it has version 3 where
 /// the problem has, else version 1. There is none where the goal is an entailment, and where the format has no room for
 /// the run: its numbers have at most nine digits, the stack at most 65,535 entries, the heap at most as many cells as
-/// the version allows, and each cell a field at least and at most as many as the version allows; and a run that grows
-/// has a pair at least. Whether the run refutes the claim is not asked.
+/// the version allows, and each cell a field at least and at most as many as the version allows; a run that grows has a
+/// pair at least, and one that breaks an end has version 3. Whether the run refutes the claim is not asked.
 pub fn run_for(
     alloc: Global,
     problem: &Problem,
@@ -68,8 +67,8 @@ pub fn run_for(
     let Judgement::Term(line, precondition) = &problem.goal else {
         return Ok(None);
     };
-    let most = ModelVersion::for_version(problem.version).limits();
-    if !is_short_run(alloc, most, &stack, &heap, &picks, &outcome)? {
+    let version = ModelVersion::for_version(problem.version);
+    if !is_short_run(alloc, version, &stack, &heap, &picks, &outcome)? {
         return Ok(None);
     }
     let run = run_of_claim(problem, *line, precondition, stack, heap, picks, outcome)?;

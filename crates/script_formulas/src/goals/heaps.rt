@@ -3,24 +3,39 @@ ghost use Rattle.std.specs.Prelude.{◌≡◌, ◌++◌, length, replicate, IfOk
 ghost use Rattle.std.specs.List.{AllZip};
 ghost use Rattle.cyc_basics.specs.Limits.{AreLimits};
 ghost use Rattle.heap_formula.specs.declared.terms.Term.TheVariants.{Nil as nil_term};
-ghost use Rattle.script_formulas.specs.Translating.{IsPlaceOf, IsTermOf, AreTermsOf, AreFilled, IsPureOf, IsSpatialOf};
-ghost use Rattle.script_formulas.specs.Translating.{IsHeapOf, AreHeapsOf};
+ghost use Rattle.script_formulas.specs.Translating.{IsFirstPlaceOf, IsFree, IsQuantified, IsTermOf, AreTermsOf};
+ghost use Rattle.script_formulas.specs.Translating.{AreFilled, IsPureOf, IsSpatialOf, IsHeapOf, IsCaseOf, AreHeapsOf};
 
 use crate::ScriptAtom;
 use crate::cases::{Case, Refused, Unsupported};
+use crate::goals::occurrences::quantified_in;
 use cyc_basics::limits::Limits;
 use heap_formula::{Args, Heap, Pure, Spatial, Term};
 use std::alloc::Global;
 
+/// What stands for the variables of a case that are not quantified.
+#[derive(Clone, Copy)]
+pub enum Free<'v> {
+    /// Those below this number stand for themselves.
+    Known(u16),
+    /// Those below this number have their places in the list for numbers.
+    Placed(u16, &'v [u16]),
+}
+
+/// What stands for those that are quantified.
+#[derive(Clone, Copy)]
+pub enum Quantified<'v> {
+    /// Universal variables: their numbers begin with this one, and each has the place of its number in the list.
+    Raised(u16, &'v [u16]),
+    /// Existential ones, which have their places in the list for numbers.
+    Local(&'v [u16]),
+}
+
 /// What stands for the variables of a case.
 #[derive(Clone, Copy)]
-pub enum Variables<'v> {
-    /// They stand for themselves, those that are not quantified below this number.
-    Known(u16),
-    /// Below this number those that are not quantified stand for themselves, and from it on come the quantified ones.
-    Raised(u16),
-    /// Each that is not quantified has its place in this list for a number.
-    Listed(&'v [u16]),
+pub struct Variables<'v> {
+    pub free: Free<'v>,
+    pub quantified: Quantified<'v>,
 }
 
 /// What stands for constructors and predicates: the number of fields of their cells, and their numbers in the problem.
@@ -33,40 +48,67 @@ pub struct Numbers {
 
 const UNBOUND: Refused = Refused::Unsupported(Unsupported::Unbound);
 
-/// The place of a number in a list.
+/// The first place of a number in a list.
 fn place_of(numbers: &[u16], wanted: u16) -> Option<u16>
-    ensures { IfSome result (λ k. IsPlaceOf numbers.now wanted k) }
+    ensures { IfSome result (λ k. IsFirstPlaceOf numbers.now wanted k) }
 {
     for (place, number) in numbers.iter().enumerate() {
-        if *number == wanted && place < 65535 {
-            return Some(place as u16);
+        if *number == wanted {
+            return if place < 65535 {
+                Some(place as u16)
+            } else {
+                None
+            };
         }
     }
     None
 }
 
-fn term_of(variables: Variables<'_>, term: Term) -> Result<Term, Refused>
-    ensures { IfOk result (λ u. IsTermOf variables.entry term u) }
+fn free_term(free: Free<'_>, n: u16) -> Result<Term, Refused>
+    ensures { IfOk result (λ u. IsFree free.entry n u) }
 {
-    match (variables, term) {
-        (_, Term::Nil) => Ok(Term::Nil),
-        (Variables::Known(most), Term::Univ(n)) if n < most => Ok(term),
-        (Variables::Known(_), Term::Univ(_)) => Err(UNBOUND),
-        (Variables::Known(_), Term::Exist(_)) => Ok(term),
-        (Variables::Raised(most), Term::Univ(n)) if n < most => Ok(term),
-        (Variables::Raised(most), Term::Exist(n)) if n <= u16::MAX - most => Ok(Term::Univ(
-            most + n,
-        )),
-        (Variables::Raised(_), _) => Err(UNBOUND),
-        (Variables::Listed(_), Term::Exist(_)) => Ok(term),
-        (Variables::Listed(listed), Term::Univ(n)) => match place_of(listed, n) {
+    match free {
+        Free::Known(most) if n < most => Ok(Term::Univ(n)),
+        Free::Placed(most, order) if n < most => match place_of(order, n) {
             Some(place) => Ok(Term::Univ(place)),
             None => Err(UNBOUND),
         },
+        _ => Err(UNBOUND),
     }
 }
 
-fn terms_of(alloc: Global, variables: Variables<'_>, terms: &[Term]) -> Result<Vec<Term>, Refused>
+fn quantified_term(quantified: Quantified<'_>, n: u16) -> Result<Term, Refused>
+    ensures { IfOk result (λ u. IsQuantified quantified.entry n u) }
+{
+    match quantified {
+        Quantified::Raised(most, order) if n <= u16::MAX - most => match place_of(order, most + n) {
+            Some(place) => Ok(Term::Univ(place)),
+            None => Err(UNBOUND),
+        },
+        Quantified::Local(order) => match place_of(order, n) {
+            Some(place) => Ok(Term::Exist(place)),
+            None => Err(UNBOUND),
+        },
+        Quantified::Raised(_, _) => Err(UNBOUND),
+    }
+}
+
+fn term_of(variables: Variables<'_>, term: Term) -> Result<Term, Refused>
+    ensures { IfOk result (λ u. IsTermOf variables.entry term u) }
+{
+    match term {
+        Term::Nil => Ok(Term::Nil),
+        Term::Univ(n) => free_term(variables.free, n),
+        Term::Exist(n) => quantified_term(variables.quantified, n),
+    }
+}
+
+/// The terms of a problem for these.
+pub fn terms_of(
+    alloc: Global,
+    variables: Variables<'_>,
+    terms: &[Term],
+) -> Result<Vec<Term>, Refused>
     ensures { IfOk result (λ us. AreTermsOf variables.entry terms.now us.items) }
 {
     let mut made = Vec::new(alloc);
@@ -231,23 +273,42 @@ pub fn heap_of(
     Ok(Heap::from_lists(pure, spatial))
 }
 
+/// The case as a symbolic heap within the limits, whose existential variables are numbered as its text names them.
+pub fn case_heap(
+    alloc: Global,
+    most: Limits,
+    numbers: &Numbers,
+    free: Free<'_>,
+    case: &Case,
+) -> Result<Heap, Refused>
+    requires { AreLimits most }
+    ensures { IfOk result (λ h. IsCaseOf numbers.now free.entry case.now h) }
+{
+    let locals = quantified_in(alloc, case)?;
+    let variables = Variables {
+        free,
+        quantified: Quantified::Local(&locals),
+    };
+    heap_of(alloc, most, numbers, variables, case)
+}
+
 /// The cases of a definition as symbolic heaps within the limits.
 pub fn heaps_of(
     alloc: Global,
     most: Limits,
     numbers: &Numbers,
-    variables: Variables<'_>,
+    free: Free<'_>,
     cases: &[Case],
 ) -> Result<Vec<Heap>, Refused>
     requires { AreLimits most }
-    ensures { IfOk result (λ hs. AreHeapsOf numbers.now variables.entry cases.now hs.items) }
+    ensures { IfOk result (λ hs. AreHeapsOf numbers.now free.entry cases.now hs.items) }
 {
     let mut heaps = Vec::new(alloc);
     for case in cases {
         if u32::from(case.quantified()) > most.locals {
             return Err(Refused::Unsupported(Unsupported::Quantifiers));
         }
-        heaps.push(heap_of(alloc, most, numbers, variables, case)?)?;
+        heaps.push(case_heap(alloc, most, numbers, free, case)?)?;
     }
     Ok(heaps)
 }

@@ -11,16 +11,16 @@ pub enum Question {
     Satisfiability,
 }
 
-/// Definitions and a goal, the version of the formats of which they are, and how the goal asks what the script does. In
-/// the goal `Univ(n)` is the script's constant n, and
-/// the numbers behind the constants are quantified variables. The first predicates are those of the script with the
-/// numbers in
-/// `predicates`; others stand behind them.
+/// Definitions and a goal, the version of the formats of which they are, and how the goal asks what the script does.
+/// Variables are numbered in the order in which a text names them: in the goal `Univ(n)` is the script's constant
+/// `universals[n]`, and the numbers there behind the constants are quantified variables. The first predicates are those
+/// of the script with the numbers in `predicates`; others stand behind them.
 #[derive(Drop)]
 pub struct ScriptGoal {
     pub question: Question,
     pub version: Version,
     pub defs: Defs,
     pub goal: Judgement,
+    pub universals: Vec<u16>,
     pub predicates: Vec<u16>,
 }

@@ -2,65 +2,38 @@
 ghost use Rattle.std.specs.Prelude.{◌≡◌, [], ◌∷◌, map, IfOk};
 ghost use Rattle.cyc_basics.specs.Limits.{AreLimits};
 ghost use Rattle.heap_formula.specs.declared.terms.Term.TheVariants.{Univ as constant_term};
-ghost use Rattle.script_formulas.specs.declared.goals.heaps.Variables.TheVariants.{Known as known};
 ghost use Rattle.script_formulas.specs.Translating.{AreHeapsOf, AreDisjuncts, impossible};
 ghost use Rattle.script_formulas.specs.Defining.{call_of, IsCallOf, IsAntecedent};
 
-use crate::ScriptAtom;
 use crate::cases::{Case, Refused, Unsupported};
 use crate::goals::building::{Building, false_heap};
-use crate::goals::heaps::{Numbers, Variables, heap_of, heaps_of};
+use crate::goals::heaps::{
+    Free, Numbers, Quantified, Variables, case_heap, heap_of, heaps_of, terms_of,
+};
+use crate::goals::occurrences::constants_in;
 use cyc_basics::limits::{Limits, MOST_DISJUNCTS};
-use cyc_basics::memory::OutOfMemory;
-use heap_formula::{Args, Disjuncts, Heap, Pure, Spatial, Term};
+use heap_formula::{Args, Disjuncts, Heap, Spatial, Term};
 use std::alloc::Global;
 
-/// Keeps a term's number if it is not quantified and new.
-fn keep(numbers: &mut Vec<u16>, term: Term) -> Result<(), OutOfMemory> {
-    if let Term::Univ(n) = term {
-        if !numbers.contains(&n) {
-            numbers.push(n)?;
+/// The universal variables of a goal: the constants are those below a number, and each variable has its place in the
+/// order for a number.
+#[derive(Clone, Copy)]
+pub struct Universals<'v> {
+    pub constants: u16,
+    pub order: &'v [u16],
+}
+
+impl<'v> Universals<'v> {
+    /// The constants, and behind them the quantified variables.
+    fn variables(&self) -> Variables<'v>
+        ensures free { result.free ≡ Free.Placed self.now.constants self.now.order }
+        ensures quantified { result.quantified ≡ Quantified.Raised self.now.constants self.now.order }
+    {
+        Variables {
+            free: Free::Placed(self.constants, self.order),
+            quantified: Quantified::Raised(self.constants, self.order),
         }
     }
-    Ok(())
-}
-
-fn keep_all(numbers: &mut Vec<u16>, terms: &[Term]) -> Result<(), OutOfMemory> {
-    for term in terms {
-        keep(numbers, *term)?;
-    }
-    Ok(())
-}
-
-fn keep_pures(numbers: &mut Vec<u16>, atoms: &[Pure]) -> Result<(), OutOfMemory> {
-    for atom in atoms {
-        let (Pure::Eq(t, u) | Pure::Neq(t, u)) = *atom;
-        keep(numbers, t)?;
-        keep(numbers, u)?;
-    }
-    Ok(())
-}
-
-fn keep_atom(numbers: &mut Vec<u16>, atom: &ScriptAtom) -> Result<(), OutOfMemory> {
-    match atom {
-        ScriptAtom::Cell(t, _, args) => {
-            keep(numbers, *t)?;
-            keep_all(numbers, args.as_slice())
-        }
-        ScriptAtom::Call(_, args) => keep_all(numbers, args.as_slice()),
-    }
-}
-
-/// The constants that occur in the cases, in order.
-fn constants_of(alloc: Global, cases: &[Case]) -> Result<Vec<u16>, OutOfMemory> {
-    let mut numbers = Vec::new(alloc);
-    for case in cases {
-        keep_pures(&mut numbers, case.pure())?;
-        for atom in case.atoms() {
-            keep_atom(&mut numbers, atom)?;
-        }
-    }
-    Ok(numbers)
 }
 
 fn constant_terms(alloc: Global, constants: &[u16]) -> Result<Vec<Term>, Refused>
@@ -73,16 +46,16 @@ fn constant_terms(alloc: Global, constants: &[u16]) -> Result<Vec<Term>, Refused
     Ok(terms)
 }
 
-fn call(alloc: Global, most: Limits, number: u16, constants: &[u16]) -> Result<Heap, Refused>
+/// A call of a predicate.
+fn call(alloc: Global, most: Limits, number: u16, arguments: &[Term]) -> Result<Heap, Refused>
     requires { AreLimits most }
-    ensures { IfOk result (λ h. h ≡ call_of number constants.now) }
+    ensures { IfOk result (λ h. h ≡ call_of number arguments.now) }
 {
-    let terms = constant_terms(alloc, constants)?;
-    if terms.len() > most.arguments as usize {
+    if arguments.len() > most.arguments as usize {
         return Err(Refused::Unsupported(Unsupported::Disjunction));
     }
     let mut spatial = Vec::new(alloc);
-    spatial.push(Spatial::Pred(number, Args::from_slice(&terms)))?;
+    spatial.push(Spatial::Pred(number, Args::from_slice(arguments)))?;
     if spatial.len() > 32 {
         return Err(Refused::OutOfMemory);
     }
@@ -95,19 +68,24 @@ fn called_antecedent(
     most: Limits,
     building: &mut Building,
     numbers: &Numbers,
+    universals: Universals<'_>,
     cases: &[Case],
 ) -> Result<Heap, Refused>
     requires { AreLimits most }
-    ensures { IfOk result (λ h. IsCallOf numbers.now cases.now h building.old.defs.list building.new.defs.list) }
+    ensures { let constants = universals.entry.constants in let order = universals.entry.order.now in
+        IfOk result (λ h. IsCallOf numbers.now constants order cases.now h building.old.defs.list
+        building.new.defs.list) }
 {
     let number = building.count();
     if number >= 4096 {
         return Err(Refused::Unsupported(Unsupported::Predicates));
     }
-    let listed = constants_of(alloc, cases)?;
-    let heap = call(alloc, most, number as u16, &listed)?;
-    let variables = Variables::Listed(&listed);
-    let heaps = heaps_of(alloc, most, numbers, variables, cases)?;
+    let listed = constants_in(alloc, cases)?;
+    let constants = constant_terms(alloc, &listed)?;
+    let arguments = terms_of(alloc, universals.variables(), &constants)?;
+    let heap = call(alloc, most, number as u16, &arguments)?;
+    let parameters = Free::Placed(universals.constants, &listed);
+    let heaps = heaps_of(alloc, most, numbers, parameters, cases)?;
     building.define(listed.len(), &heaps)?;
     Ok(heap)
 }
@@ -118,11 +96,12 @@ pub fn antecedent_of(
     most: Limits,
     building: &mut Building,
     numbers: &Numbers,
-    constants: u16,
+    universals: Universals<'_>,
     cases: &[Case],
 ) -> Result<Heap, Refused>
     requires { AreLimits most }
-    ensures { IfOk result (λ h. IsAntecedent numbers.now constants cases.now h building.old.defs.list
+    ensures { let constants = universals.entry.constants in let order = universals.entry.order.now in
+        IfOk result (λ h. IsAntecedent numbers.now constants order cases.now h building.old.defs.list
         building.new.defs.list) }
 {
     let count = cases.len();
@@ -130,15 +109,9 @@ pub fn antecedent_of(
         return false_heap(alloc);
     }
     if count == 1 {
-        return heap_of(
-            alloc,
-            most,
-            numbers,
-            Variables::Raised(constants),
-            &cases[0],
-        );
+        return heap_of(alloc, most, numbers, universals.variables(), &cases[0]);
     }
-    called_antecedent(alloc, most, building, numbers, cases)
+    called_antecedent(alloc, most, building, numbers, universals, cases)
 }
 
 fn no_disjunct(alloc: Global) -> Result<Disjuncts, Refused>
@@ -153,16 +126,17 @@ fn disjuncts_of(
     alloc: Global,
     most: Limits,
     numbers: &Numbers,
-    constants: u16,
+    universals: Universals<'_>,
     cases: &[Case],
 ) -> Result<Vec<Heap>, Refused>
     requires { AreLimits most }
-    ensures { IfOk result (λ hs. AreHeapsOf numbers.now (known constants) cases.now hs.items) }
+    ensures { let constants = Free.Placed universals.entry.constants universals.entry.order in
+        IfOk result (λ hs. AreHeapsOf numbers.now constants cases.now hs.items) }
 {
     let mut heaps = Vec::new(alloc);
     for case in cases {
-        let variables = Variables::Known(constants);
-        heaps.push(heap_of(alloc, most, numbers, variables, case)?)?;
+        let constants = Free::Placed(universals.constants, universals.order);
+        heaps.push(case_heap(alloc, most, numbers, constants, case)?)?;
     }
     Ok(heaps)
 }
@@ -172,17 +146,18 @@ pub fn succedent_of(
     alloc: Global,
     most: Limits,
     numbers: &Numbers,
-    constants: u16,
+    universals: Universals<'_>,
     cases: &[Case],
 ) -> Result<Disjuncts, Refused>
     requires { AreLimits most }
-    ensures { IfOk result (λ hs. AreDisjuncts numbers.now constants cases.now hs) }
+    ensures { let constants = universals.entry.constants in let order = universals.entry.order.now in
+        IfOk result (λ hs. AreDisjuncts numbers.now constants order cases.now hs) }
 {
     let count = cases.len();
     if count == 0 {
         return no_disjunct(alloc);
     }
-    let heaps = disjuncts_of(alloc, most, numbers, constants, cases)?;
+    let heaps = disjuncts_of(alloc, most, numbers, universals, cases)?;
     if heaps.len() == 0 || heaps.len() > MOST_DISJUNCTS {
         return Err(Refused::Unsupported(Unsupported::Cases));
     }

@@ -12,12 +12,13 @@ ghost use Rattle.script_formulas.specs.Defining.{HasBody, AreDefinedIn, IsJudgem
 use crate::cases::{Case, Refused, Unsupported};
 use crate::goals::antecedents::{Sides, cases_at, sides_of};
 use crate::goals::building::Building;
-use crate::goals::heaps::{Numbers, Variables, heaps_of};
+use crate::goals::heaps::{Free, Numbers, heaps_of};
+use crate::goals::occurrences::universals_in;
 use crate::goals::question::{Question, ScriptGoal};
 use crate::goals::reached::{Reached, reached_in};
 use crate::goals::refusal::{Place, ScriptRefusal, at};
 use crate::goals::sorts::check_sorts;
-use crate::goals::succedents::{antecedent_of, succedent_of};
+use crate::goals::succedents::{Universals, antecedent_of, succedent_of};
 use crate::goals::widths::widths_of;
 use crate::{Predicate, Script};
 use cyc_basics::limits::Limits;
@@ -91,8 +92,8 @@ fn define_predicate(
     if has_open(&cases) {
         return Err(ScriptRefusal::Unsupported(place, Unsupported::OpenHeap));
     }
-    let variables = Variables::Known(arity as u16);
-    let heaps = at(place, heaps_of(alloc, most, numbers, variables, &cases))?;
+    let parameters = Free::Known(arity as u16);
+    let heaps = at(place, heaps_of(alloc, most, numbers, parameters, &cases))?;
     at(place, building.define(arity, &heaps))?;
     Ok(())
 }
@@ -163,20 +164,33 @@ fn judgement_of(
     most: Limits,
     building: &mut Building,
     numbers: &Numbers,
-    constants: usize,
+    universals: Universals<'_>,
     sides: &Sides,
 ) -> Result<Judgement, Refused>
     requires { AreLimits most }
-    ensures { IfOk result (λ goal. IsJudgement numbers.now constants sides.now.asserted.items
-        sides.now.denied.items building.old.defs.list building.new.defs.list goal) }
+    ensures { IfOk result (λ goal. IsJudgement numbers.now universals.entry.constants universals.entry.order.now
+        sides.now.asserted.items sides.now.denied.items building.old.defs.list building.new.defs.list goal) }
 {
-    if constants >= 65535 {
+    let antecedent = antecedent_of(alloc, most, building, numbers, universals, &sides.asserted)?;
+    let succedent = succedent_of(alloc, most, numbers, universals, &sides.denied)?;
+    Ok(Judgement::Entail(antecedent, succedent))
+}
+
+/// How many constants a script has.
+fn constant_count(script: &Script) -> Result<u16, Refused>
+    ensures { IfOk result (λ n. n ≡ length script.now.constants.items) }
+{
+    let count = script.constants.len();
+    if count >= 65535 {
         return Err(Refused::Unsupported(Unsupported::Variables));
     }
-    let constants = constants as u16;
-    let antecedent = antecedent_of(alloc, most, building, numbers, constants, &sides.asserted)?;
-    let succedent = succedent_of(alloc, most, numbers, constants, &sides.denied)?;
-    Ok(Judgement::Entail(antecedent, succedent))
+    Ok(count as u16)
+}
+
+/// The universal variables of the goal, in the order in which its text names them.
+fn order_of(alloc: Global, constants: u16, sides: &Sides) -> Result<Vec<u16>, Refused> {
+    let order = universals_in(alloc, constants, &sides.asserted, &sides.denied)?;
+    Ok(order)
 }
 
 fn question_of(asserted: &[Case], denied: &[Case]) -> Result<Question, ScriptRefusal>
@@ -211,8 +225,13 @@ fn goal_of_sides(
     let numbers = at(Place::Whole, numbers_of(alloc, script))?;
     let has_disjunction = sides.asserted.len() > 1;
     let mut building = definitions_of(alloc, most, script, &numbers, has_disjunction)?;
-    let constants = script.constants.len();
-    let goal = judgement_of(alloc, most, &mut building, &numbers, constants, sides);
+    let constants = at(Place::Whole, constant_count(script))?;
+    let order = at(Place::Whole, order_of(alloc, constants, sides))?;
+    let universals = Universals {
+        constants,
+        order: &order,
+    };
+    let goal = judgement_of(alloc, most, &mut building, &numbers, universals, sides);
     let goal = at(Place::Whole, goal)?;
     let defs = building.finished();
     let Numbers {
@@ -225,6 +244,7 @@ fn goal_of_sides(
         version,
         defs,
         goal,
+        universals: order,
         predicates,
     })
 }

@@ -11,13 +11,14 @@ use heap_syntax::Version;
 use pred_defs::Defs;
 use std::alloc::Global;
 
-/// A problem, and how it asks what the script does. In the goal `Univ(n)` is the script's constant n, and the numbers
-/// behind the constants are quantified variables. The first predicates are those of the script with the numbers in
-/// `predicates`; others stand behind them.
+/// A problem, and how it asks what the script does. In the goal `Univ(n)` is the script's constant `universals[n]`, and
+/// the numbers there behind the constants are quantified variables. The first predicates are those of the script with
+/// the numbers in `predicates`; others stand behind them.
 #[derive(Drop)]
 pub struct ScriptProblem {
     pub question: Question,
     pub problem: Problem,
+    pub universals: Vec<u16>,
     pub predicates: Vec<u16>,
 }
 
@@ -50,12 +51,14 @@ pub fn problem_of_script(alloc: Global, script: &Script) -> Result<ScriptProblem
         version,
         defs,
         goal,
+        universals,
         predicates,
     } = goal_of_script(alloc, script)?;
     let problem = problem_of(alloc, version, defs, goal)?;
     Ok(ScriptProblem {
         question,
         problem,
+        universals,
         predicates,
     })
 }

@@ -3,8 +3,8 @@ use Rattle.std.specs.Prelude.{map}
 use Rattle.std.proofs.lemmas.List.{length-map}
 use Rattle.cyc_lex.specs.Word.{word_of}
 use Rattle.proof_syntax.specs.Trees.{node_of}
-use Rattle.proof_syntax.specs.declared.statements.tree.NodeOrEnd.{NodeOrEnd}
-use Rattle.proof_syntax.specs.StatementTrees.{node_or_end_of}
+use Rattle.proof_syntax.specs.declared.statements.tree.NodeOrLast.{NodeOrLast}
+use Rattle.proof_syntax.specs.StatementTrees.{node_or_last_of}
 use Rattle.file_reader.specs.declared.known.Found.{Found}
 use Rattle.file_reader.specs.Lasts.{left_from}
 use Rattle.file_reader.specs.Stretches.{tokens_of}
@@ -21,7 +21,7 @@ overflow_sub-tokens c =
       arith,
       c.left.ensures,
       statement-shrinks (map word_of us) c.args.cursor.now
-          (node_or_end_of c.args.statement.now) c.requires.read,
+          (node_or_last_of c.args.statement.now) c.requires.read,
       words-size s c.requires.stretch n (map word_of us) (left-stands s n c.requires.later c.requires.within),
     )
 
@@ -29,14 +29,14 @@ pub add_node-requires-clause-fits : goal.add_node-requires-clause-fits
 add_node-requires-clause-fits c =
     let us = left_from c.args.stretch c.args.found.now.tokens in
     later-fits (map word_of us) c.args.cursor.now (node_of c.in-Node.tree)
-    (c.requires.read ∙ ap (λ (x : NodeOrEnd). Ok (node_or_end_of x, c.args.cursor.now)) c.in-Node.is)
+    (c.requires.read ∙ ap (λ (x : NodeOrLast). Ok (node_or_last_of x, c.args.cursor.now)) c.in-Node.is)
 
 pub add_node-requires-clause-within : goal.add_node-requires-clause-within
 add_node-requires-clause-within c =
     let s = c.args.stretch in
     let n = c.args.found.now.tokens in
     let us = left_from s n in
-    let read = c.requires.read ∙ ap (λ (x : NodeOrEnd). Ok (node_or_end_of x, c.args.cursor.now)) c.in-Node.is in
+    let read = c.requires.read ∙ ap (λ (x : NodeOrLast). Ok (node_or_last_of x, c.args.cursor.now)) c.in-Node.is in
     omega (
       arith,
       later-span (map word_of us) c.args.cursor.now (node_of c.in-Node.tree) read,
@@ -52,7 +52,7 @@ returns-in_ok-add_node-in-Node c =
     let old = c.args.found.now in
     let us = left_from s old.tokens in
     let mid = c.add_node.new.found in
-    let read = c.requires.read ∙ ap (λ (x : NodeOrEnd). Ok (node_or_end_of x, ws)) c.in-Node.is in
+    let read = c.requires.read ∙ ap (λ (x : NodeOrLast). Ok (node_or_last_of x, ws)) c.in-Node.is in
     let new : Found = record {
       flaw = mid.flaw;
       nodes = mid.nodes;
@@ -61,7 +61,7 @@ returns-in_ok-add_node-in-Node c =
     } in
     let size = left-size s c.requires.stretch old.tokens (map word_of us)
     (left-stands s old.tokens c.requires.later c.requires.within) in
-    let less = statement-shrinks (map word_of us) ws (node_or_end_of c.args.statement.now) c.requires.read in
+    let less = statement-shrinks (map word_of us) ws (node_or_last_of c.args.statement.now) c.requires.read in
     let taken : NodeTaken k us ws old new = node-comes k c.args.heads.now c.requires.heads s.before (tokens_of s) us ws
     (node_of c.in-Node.tree)
     old mid new c.requires.later refl read c.in_ok-add_node-in-Node.ensures c.requires.steady c.requires.going refl
@@ -72,14 +72,14 @@ returns-in_ok-add_node-in-Node c =
       stands = step-stands k s c.requires.stretch old new ws c.requires.later c.requires.within taken;
     }
 
-pub returns-in-End : goal.returns-in-End
-returns-in-End c =
+pub returns-in-Last : goal.returns-in-Last
+returns-in-Last c =
     let k = c.args.known.now in
     let s = c.args.stretch in
     let ws = c.args.cursor.now in
     let old = c.args.found.now in
     let us = left_from s old.tokens in
-    let read = c.requires.read ∙ ap (λ (x : NodeOrEnd). Ok (node_or_end_of x, ws)) c.in-End.is in
+    let read = c.requires.read ∙ ap (λ (x : NodeOrLast). Ok (node_or_last_of x, ws)) c.in-Last.is in
     let new : Found = record {
       flaw = old.flaw;
       nodes = old.nodes;
@@ -88,7 +88,7 @@ returns-in-End c =
     } in
     let size = left-size s c.requires.stretch old.tokens (map word_of us)
     (left-stands s old.tokens c.requires.later c.requires.within) in
-    let less = statement-shrinks (map word_of us) ws (node_or_end_of c.args.statement.now) c.requires.read in
+    let less = statement-shrinks (map word_of us) ws (node_or_last_of c.args.statement.now) c.requires.read in
     let taken : NodeTaken k us ws old new = end-comes k us ws old new read c.requires.steady c.requires.going refl refl
     refl
     (omega (arith, size, less, length-map us word_of, c.requires.later, c.left.ensures)) in

@@ -6,8 +6,8 @@ use Rattle.proof_file.specs.Flaws.{file_flaw}
 use Rattle.file_reader.specs.declared.known.Found.{Found}
 use Rattle.file_reader.specs.Steps.{tree_of}
 use Rattle.file_reader.specs.Stretches.{tokens_of}
-use Rattle.file_reader.specs.Fronts.{front_defs}
-use Rattle.file_reader.proofs.FrontLaws.{begun-fits, begun-span, begun-size, begun-few}
+use Rattle.file_reader.specs.Fronts.{front_defs, front_ends}
+use Rattle.file_reader.proofs.FrontLaws.{begun-fits, begun-span, begun-size, begun-ends, begun-few}
 use Rattle.file_reader.proofs.BeginLaws.{told-none, begins}
 use Rattle.file_reader.proofs.first_node.begun_with.Goals as goal
 
@@ -15,12 +15,16 @@ pub open-requires-clause-within : goal.open-requires-clause-within
 open-requires-clause-within c = begun-size (map word_of (tokens_of c.args.stretch))
     c.args.front.now c.args.cursor.now c.requires.read
 
+pub open-requires-clause-fits : goal.open-requires-clause-fits
+open-requires-clause-fits c = begun-ends (map word_of (tokens_of c.args.stretch))
+    c.args.front.now c.args.cursor.now c.requires.read
+
 pub add_node-requires-clause-few : goal.add_node-requires-clause-few
 add_node-requires-clause-few c none =
     let f = c.args.front.now in
     let ts = tokens_of c.args.stretch in
     begun-few (map word_of ts) f c.args.cursor.now c.requires.read c.args.heads.now c.requires.known
-    (told-none ts (file_flaw (tree_of f.version (front_defs f) f.lines.items []))
+    (told-none ts (file_flaw (tree_of f.version (front_defs f) f.lines.items (front_ends f) []))
     (sym c.in_ok-beginning.ensures.flaw ∙ none))
 
 pub add_node-requires-clause-fits : goal.add_node-requires-clause-fits

@@ -1,5 +1,5 @@
 use Rattle.std.proofs.lemmas.Result.{err_from_is_err_and}
-use Rattle.proof_syntax.specs.StatementTrees.{node_or_end_of}
+use Rattle.proof_syntax.specs.StatementTrees.{node_or_last_of}
 use Rattle.file_reader.specs.Lasts.{comes_to}
 use Rattle.file_reader.proofs.LastLaws.{node-dies, dies-same, read-words, step-read}
 use Rattle.file_reader.proofs.NodeLaws.{statement-shrinks}
@@ -21,11 +21,11 @@ add_statement-added-requires-clause-read c = read-words c.args.stretch c.nodes.f
     c.nodes.invariant.stands _ c.in_ok-statement.ensures
 
 pub nodes-smaller : goal.nodes-smaller
-nodes-smaller c = statement-shrinks c.nodes.cursor c.kept_node_or_end.new.cursor
-    (node_or_end_of c.in_ok-statement.statement) c.in_ok-statement.ensures
+nodes-smaller c = statement-shrinks c.nodes.cursor c.kept_node_or_last.new.cursor
+    (node_or_last_of c.in_ok-statement.statement) c.in_ok-statement.ensures
 
 pub nodes-preserved : goal.nodes-preserved
 nodes-preserved c =
     let added = c.in_ok-added.ensures in
     step-read c.args.known.now c.args.stretch c.args.found.now c.nodes.found c.add_statement-added.new.found
-    c.nodes.cursor c.kept_node_or_end.new.cursor c.nodes.invariant added.taken added.stands
+    c.nodes.cursor c.kept_node_or_last.new.cursor c.nodes.invariant added.taken added.stands

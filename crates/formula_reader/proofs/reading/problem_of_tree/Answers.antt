@@ -7,11 +7,15 @@ use Rattle.pred_defs.specs.Book.{DefinitionBook}
 use Rattle.pred_defs.specs.Faults.{closed_fault}
 use Rattle.goto_lang.specs.Faults.{program_fault}
 use Rattle.heap_syntax.specs.Versions.{limits}
-use Rattle.heap_reader.specs.LineValues.{line_value, variable_value, program_value}
+use Rattle.heap_reader.specs.LineValues.{line_value, variable_value}
+use Rattle.heap_reader.specs.EndSmall.{IsSmallEnd}
+use Rattle.heap_reader.specs.EndValues.{end_value, ended_value, lines_with_ends}
+use Rattle.heap_syntax.specs.declared.ends.tree.EndTree.{EndTree}
+use Rattle.problem_syntax.specs.declared.numbering.tree.NumberedTerm.{NumberedTerm}
 use Rattle.problem_syntax.specs.declared.numbering.tree.NumberedDefinition.{NumberedDefinition}
-use Rattle.problem_syntax.specs.Numbered.{definition_of, problem_of}
+use Rattle.problem_syntax.specs.Numbered.{definition_of, end_of, problem_of}
 use Rattle.formula_reader.specs.Flaws.{heading}
-use Rattle.formula_reader.specs.Values.{definition_value, goal_value}
+use Rattle.formula_reader.specs.Values.{term_value, definition_value, goal_value}
 use Rattle.heap_reader.specs.Small.{is_short_heap}
 use Rattle.formula_reader.specs.Problems.{goal_heaps, goal_fault, has_line}
 use Rattle.formula_reader.specs.Small.{IsSmallDefinition}
@@ -34,10 +38,28 @@ definitions-requires-clause-few c =
     let few = small.few in
     omega (arith, few, ap length c.requires.known, length-map p.definitions heading)
 
-pub program-requires : goal.program-requires
-program-requires c =
+pub program-requires-clause-lines : goal.program-requires-clause-lines
+program-requires-clause-lines c =
     let small = small_of (problem_of c.args.tree.now) c.requires.text c.requires.right in
     subst (λ ls. program_fault (map (line_value variable_value) ls) ≡ None) (sym c.deref-2.ensures.value) small.program
+
+pub program-requires-clause-ends : goal.program-requires-clause-ends
+program-requires-clause-ends c =
+    let small = small_of (problem_of c.args.tree.now) c.requires.text c.requires.right in
+    (λ i. program_fault (lines_with_ends 0 (map (line_value variable_value) (c.deref-2.ensures.value i))
+    (map (end_value term_value (c.requires.known i)) (map end_of (c.deref-3.ensures.value i))))) ∙ small.ended
+
+pub program-requires-clause-small : goal.program-requires-clause-small
+program-requires-clause-small c =
+    let small = small_of (problem_of c.args.tree.now) c.requires.text c.requires.right in
+    subst (λ (es : List (EndTree NumberedTerm)). Each (IsSmallEnd term_value) (map end_of es))
+    (sym c.deref-3.ensures.value) small.ends
+
+pub program-requires-clause-few : goal.program-requires-clause-few
+program-requires-clause-few c =
+    let p = problem_of c.args.tree.now in
+    let few = (small_of p c.requires.text c.requires.right).few in
+    omega (arith, few, ap length c.requires.known, length-map p.definitions heading)
 
 pub goal-requires-clause-small : goal.goal-requires-clause-small
 goal-requires-clause-small c =
@@ -71,7 +93,8 @@ invariant_of-result c =
     let same = c.requires.known in
     let definitions_are = ap (λ (b : DefinitionBook). b.list) c.from_vec.ensures ∙ c.in_ok-definitions.ensures.value
     ∙ (λ i. map (definition_value (same i)) (map definition_of (c.deref.ensures.value i))) in
-    let lines_are = c.in_ok-program.ensures ∙ (λ i. program_value (c.deref-2.ensures.value i)) in
+    let lines_are = c.in_ok-program.ensures ∙ (λ i. ended_value term_value (same i) (c.deref-2.ensures.value i)
+    (map end_of (c.deref-3.ensures.value i))) in
     let goal_is = c.in_ok-goal.ensures ∙ (λ i. goal_value (same i) p.goal) in
     let limit_is = ap (λ (b : DefinitionBook). b.most) c.from_vec.ensures ∙ c.limits.ensures.value in
     record {

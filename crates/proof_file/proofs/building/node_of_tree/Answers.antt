@@ -1,4 +1,4 @@
-use Rattle.std.proofs.Common.{◌≡◌, ℕ, None, subst}
+use Rattle.std.proofs.Common.{◌≡◌, None, subst}
 use Rattle.cyc_basics.specs.declared.limits.Limits.{Limits}
 use Rattle.heap_reader.proofs.Fitting.{most_fits}
 use Rattle.heap_syntax.specs.Versions.{limits}

@@ -6,4 +6,4 @@ pub offers-requires-clause-small : goal.offers-requires-clause-small
 offers-requires-clause-small c =
     let p = c.args.problem.now in
     are_small (theory_for p) p.goal (within p c.problem_is_within.ensures.definitions
-    c.problem_is_within.ensures.program c.problem_is_within.ensures.goal)
+    c.problem_is_within.ensures.program c.problem_is_within.ensures.ends c.problem_is_within.ensures.goal)

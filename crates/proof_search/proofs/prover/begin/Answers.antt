@@ -14,4 +14,4 @@ new-requires-clause-occurs c =
     let p = c.args.problem.now in
     subst (λ j. IsWithinLimits (theory_for p) j) (sym c.in_ok-root.ensures.cases)
     (within p c.problem_is_within.ensures.definitions c.problem_is_within.ensures.program
-    c.problem_is_within.ensures.goal)
+    c.problem_is_within.ensures.ends c.problem_is_within.ensures.goal)

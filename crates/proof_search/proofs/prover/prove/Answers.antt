@@ -17,7 +17,7 @@ file_of-requires c =
     let p = c.args.problem.now in
     let order = c.in_ok-start.ensures.order in
     let may = within p c.problem_is_within.ensures.definitions c.problem_is_within.ensures.program
-    c.problem_is_within.ensures.goal in
+    c.problem_is_within.ensures.ends c.problem_is_within.ensures.goal in
     let e = c.in_ok-proved.ensures.outcome ∙ ap (λ s. search_of s c.args.most c.args.depth)
     (same_search p c.in_ok-start.start order) in
     let is = subst (λ t. IsFoundIn (logic_over (theory_for p)) (calculus_of t) p.goal c.in_ok-proved.proved) order.theory
@@ -30,7 +30,7 @@ pub returns-clause-outcome : goal.returns-clause-outcome
 returns-clause-outcome c =
     let p = c.args.problem.now in
     let may = within p c.problem_is_within.ensures.definitions c.problem_is_within.ensures.program
-    c.problem_is_within.ensures.goal in
+    c.problem_is_within.ensures.ends c.problem_is_within.ensures.goal in
     let e = c.in_ok-proved.ensures.outcome ∙ ap (λ s. search_of s c.args.most c.args.depth)
     (same_search p c.in_ok-start.start c.in_ok-start.ensures.order) in
     IfOk-weaker c.file_of.result _ _
@@ -40,7 +40,7 @@ pub returns-clause-first : goal.returns-clause-first
 returns-clause-first c =
     let p = c.args.problem.now in
     let may = within p c.problem_is_within.ensures.definitions c.problem_is_within.ensures.program
-    c.problem_is_within.ensures.goal in
+    c.problem_is_within.ensures.ends c.problem_is_within.ensures.goal in
     let e = c.in_ok-proved.ensures.outcome ∙ ap (λ s. search_of s c.args.most c.args.depth)
     (same_search p c.in_ok-start.start c.in_ok-start.ensures.order) in
     IfOk-weaker c.file_of.result _ _ (λ q over. is_first p may c.args.most c.args.depth q
@@ -51,7 +51,7 @@ returns-clause-proved c =
     let p = c.args.problem.now in
     let order = c.in_ok-start.ensures.order in
     let may = within p c.problem_is_within.ensures.definitions c.problem_is_within.ensures.program
-    c.problem_is_within.ensures.goal in
+    c.problem_is_within.ensures.ends c.problem_is_within.ensures.goal in
     let e = c.in_ok-proved.ensures.outcome ∙ ap (λ s. search_of s c.args.most c.args.depth)
     (same_search p c.in_ok-start.start order) in
     let is = subst (λ t. IsFoundIn (logic_over (theory_for p)) (calculus_of t) p.goal c.in_ok-proved.proved) order.theory

@@ -3,8 +3,12 @@ use Rattle.std.proofs.lemmas.List.{length-map}
 use Rattle.heap_formula.specs.Words.{Each}
 use Rattle.rule_table.specs.Tests.{is_universal_heap}
 use Rattle.heap_reader.specs.Values.{heap_value}
-use Rattle.heap_reader.specs.LineValues.{program_value}
+use Rattle.heap_reader.specs.EndValues.{end_value, ended_value}
+use Rattle.heap_syntax.specs.declared.version.Version.{Version}
 use Rattle.heap_syntax.specs.declared.definitions.tree.DefinitionTree.{DefinitionTree}
+use Rattle.heap_syntax.specs.declared.definitions.tree.TermTree.{TermTree}
+use Rattle.heap_syntax.specs.declared.ends.tree.EndTree.{EndTree}
+use Rattle.heap_syntax.specs.NumberedEnds.{end_of, ends}
 use Rattle.heap_syntax.specs.DefinitionTrees.{definition_of}
 use Rattle.heap_reader.specs.DefinitionFlaws.{heading, headings}
 use Rattle.heap_reader.specs.DefinitionValues.{term_value, definition_value}
@@ -24,7 +28,8 @@ use Rattle.run_file.specs.Trees.{Run, pick_of, run_of}
 use Rattle.run_file.specs.Flaws.{allowed, from_place, run_flaw}
 use Rattle.run_file.specs.Written.{tree_of}
 use Rattle.run_file.proofs.Parts.{faultless, line_there, program_long}
-use Rattle.run_file.proofs.RunsAgain.{sorted, sorted_fits, sorted_flawless, tree_again, state_universal, run_small}
+use Rattle.run_file.proofs.RunsAgain.{ends_fit, sorted, sorted_fits, sorted_flawless, tree_again, state_universal}
+use Rattle.run_file.proofs.RunsAgain.{run_small}
 use Rattle.run_file.proofs.reading.run_of_tree.Goals as goal
 
 pub front_values-requires-clause-known : goal.front_values-requires-clause-known
@@ -34,8 +39,14 @@ front_values-requires-clause-known c = c.requires.known
 pub front_values-requires-clause-right : goal.front_values-requires-clause-right
 front_values-requires-clause-right c =
     (λ i. file_flaw (front_of (c.format.ensures i) (map definition_of (c.deref.ensures.value i))
-    (c.deref-2.ensures.value i)))
+    (c.deref-2.ensures.value i) (map end_of (c.deref-3.ensures.value i))))
     ∙ (faultless (run_of c.args.tree.now) c.requires.right).front
+
+pub front_values-requires-clause-fits : goal.front_values-requires-clause-fits
+front_values-requires-clause-fits c =
+    let r = run_of c.args.tree.now in
+    subst (λ (p : Version × List (EndTree TermTree)). (ends p.0).fits (map end_of p.1))
+    (λ i. (sym c.format.ensures i, sym c.deref-3.ensures.value i)) (ends_fit r c.requires.fits)
 
 pub heap_value-requires-clause-small : goal.heap_value-requires-clause-small
 heap_value-requires-clause-small c =
@@ -52,7 +63,7 @@ heap_value-requires-clause-few c =
 
 pub cells-requires : goal.cells-requires
 cells-requires c =
-    subst (λ (cs : List CellTree). Each IsSmallCell (map cell_of cs)) (sym c.deref-4.ensures.value)
+    subst (λ (cs : List CellTree). Each IsSmallCell (map cell_of cs)) (sym c.deref-5.ensures.value)
     (run_small (run_of c.args.tree.now) c.requires.fits c.requires.right)
 
 pub invariant_of-result : goal.invariant_of-result
@@ -62,13 +73,15 @@ invariant_of-result c =
     let there = line_there r (faultless r c.requires.right) in
     let definitions_are = c.in_ok-front.ensures.definitions
     ∙ (λ i. map (definition_value (c.requires.known i)) (map definition_of (c.deref.ensures.value i))) in
-    let program_is = c.in_ok-front.ensures.program ∙ ap program_value c.deref-2.ensures.value in
+    let program_is = c.in_ok-front.ensures.program ∙ (λ i. ended_value term_value (c.requires.known i)
+    (c.deref-2.ensures.value i) (map end_of (c.deref-3.ensures.value i))) in
     let state_is = c.in_ok-precondition.ensures ∙ (λ i. heap_value term_value (c.requires.known i) r.precondition) in
-    let stack_is = c.from_vec-stack.ensures ∙ c.in_ok-wide_numbers.ensures ∙ c.deref-3.ensures.value in
+    let stack_is = c.from_vec-stack.ensures ∙ c.in_ok-wide_numbers.ensures ∙ c.deref-4.ensures.value in
     let heap_is = c.in_ok-heap.ensures ∙ ap (λ (cs : List CellTree). cells_value (map cell_of cs))
-    c.deref-4.ensures.value in
-    let picks_are = c.in_ok-picks.ensures ∙ ap (map pick_of) c.deref-5.ensures.value in
-    let long = program_long r.lines in
+    c.deref-5.ensures.value in
+    let picks_are = c.in_ok-picks.ensures ∙ ap (map pick_of) c.deref-6.ensures.value in
+    let ended = map (end_value term_value (headings r.definitions)) r.ends in
+    let long = program_long r.lines ended in
     let same : sorted r
     ≡ tree_of r.version c.in_ok-front.front.defs.list c.in_ok-front.front.program r.line
     c.in_ok-precondition.precondition c.from_vec-stack.result c.in_ok-heap.heap c.in_ok-picks.picks.items
@@ -79,7 +92,7 @@ invariant_of-result c =
       limit = c.in_ok-front.ensures.most ∙ ap limits c.format.ensures;
       from_one = there.0;
       to_last = (let last = there.1 in omega (arith, last, long, ap length program_is));
-      universal = ap are_universal_commands program_is ∙ commands_universal r.lines;
+      universal = ap are_universal_commands program_is ∙ commands_universal r.lines ended;
       state = ap is_universal_heap state_is ∙ state_universal r c.requires.fits;
       fits = subst (λ (t : Run). run.fits t) same (sorted_fits r c.requires.fits);
       flawless = ap run_flaw (sym same) ∙ sorted_flawless r c.requires.right;
@@ -93,11 +106,12 @@ returns c =
       most = c.in_ok-front.ensures.most ∙ ap limits c.format.ensures;
       definitions = c.in_ok-front.ensures.definitions
           ∙ (λ i. map (definition_value (c.requires.known i)) (map definition_of (c.deref.ensures.value i)));
-      program = c.in_ok-front.ensures.program ∙ ap program_value c.deref-2.ensures.value;
+      program = c.in_ok-front.ensures.program ∙ (λ i. ended_value term_value (c.requires.known i)
+          (c.deref-2.ensures.value i) (map end_of (c.deref-3.ensures.value i)));
       line = refl;
       precondition = c.in_ok-precondition.ensures ∙ (λ i. heap_value term_value (c.requires.known i) r.precondition);
-      stack = c.from_vec-stack.ensures ∙ c.in_ok-wide_numbers.ensures ∙ c.deref-3.ensures.value;
-      heap = c.in_ok-heap.ensures ∙ ap (λ (cs : List CellTree). cells_value (map cell_of cs)) c.deref-4.ensures.value;
-      picks = c.in_ok-picks.ensures ∙ ap (map pick_of) c.deref-5.ensures.value;
+      stack = c.from_vec-stack.ensures ∙ c.in_ok-wide_numbers.ensures ∙ c.deref-4.ensures.value;
+      heap = c.in_ok-heap.ensures ∙ ap (λ (cs : List CellTree). cells_value (map cell_of cs)) c.deref-5.ensures.value;
+      picks = c.in_ok-picks.ensures ∙ ap (map pick_of) c.deref-6.ensures.value;
       outcome = c.in_ok-outcome.ensures.cases;
     }

@@ -2,7 +2,7 @@ use Rattle.std.proofs.Common.{List, ℕ, map, sym, subst, ◌∙◌}
 use Rattle.heap_formula.specs.Words.{Each}
 use Rattle.general_models.specs.declared.runs.picks.Pick.{Pick}
 use Rattle.model_file.specs.Small.{IsShortNumber}
-use Rattle.heap_reader.specs.Written.{heap_tree, definition_tree}
+use Rattle.heap_reader.specs.Written.{heap_tree, definition_tree, ends_tree}
 use Rattle.run_file.specs.Small.{IsShortPick}
 use Rattle.run_file.proofs.RunsAgain.{tree_of_run, run_short}
 use Rattle.run_file.proofs.trees.run_tree.Goals as goal
@@ -28,6 +28,7 @@ returns c =
     let definitions = c.in_ok-definitions.ensures ∙ (λ i. map (definition_tree (c.as_slice-defs.ensures.value i))
     (c.as_slice-defs.ensures.value i)) in
     let lines = c.in_ok-lines.ensures in
+    let ends = c.in_ok-ends.ensures ∙ (λ i. ends_tree (c.as_slice-defs.ensures.value i) r.program) in
     let precondition = c.in_ok-precondition.ensures ∙ (λ i. heap_tree (c.as_slice-defs.ensures.value i) r.precondition)
     in
     let stack = c.in_ok-stack.ensures ∙ c.as_slice.ensures in
@@ -37,6 +38,7 @@ returns c =
       version = r.version;
       definitions = definitions i;
       lines = lines i;
+      ends = ends i;
       line = r.line;
       precondition = precondition i;
       stack = stack i;

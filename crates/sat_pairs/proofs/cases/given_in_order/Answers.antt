@@ -9,7 +9,7 @@ use Rattle.cyc_basics.specs.Words.{IsMember}
 use Rattle.pair_family.specs.Within.{IsWithin}
 use Rattle.pair_family.specs.declared.states.states.StatesFault.TheVariants.{TooManyStates}
 use Rattle.sat_pairs.specs.CaseStates.{PassesFrom}
-use Rattle.sat_pairs.specs.Parts.{atoms_of, lists_of}
+use Rattle.sat_pairs.specs.Atoms.{lists_of}
 use Rattle.sat_pairs.proofs.Reached.{alone_alike, each_alike, passes_alike, passes_first, states_alike, turned}
 use Rattle.sat_pairs.proofs.Starts.{IsStart}
 use Rattle.sat_pairs.proofs.Steps.{case_none, case_states, start_within}
@@ -17,7 +17,7 @@ use Rattle.sat_pairs.proofs.cases.given_in_order.Goals as goal
 
 pub returns-in_default-clause-given : goal.returns-in_default-clause-given
 returns-in_default-clause-given c =
-    let xs = atoms_of c.args.parts.now in
+    let xs = c.args.atoms.now in
     let ps = c.args.pure.now in
     let a : SymbolicHeap = record { pure = ps; spatial = xs } in
     let n : ¬ AreConsistent (pure_facts ps) = subst
@@ -26,12 +26,12 @@ returns-in_default-clause-given c =
     λ d. (
       λ m. absurd (subst (IsMember d) c.new.ensures.empty m),
       λ g.
-          absurd (case_none (lists_of c.args.table.now c.args.cell.now c.args.parts.now) c.args.k a n d g),
+          absurd (case_none (lists_of c.args.table.now c.args.cell.now c.args.atoms.now) c.args.k a n d g),
     )
 
 pub returns-in_default-clause-few : goal.returns-in_default-clause-few
 returns-in_default-clause-few c =
-    let xs = atoms_of c.args.parts.now in
+    let xs = c.args.atoms.now in
     let ps = c.args.pure.now in
     let n : ¬ AreConsistent (pure_facts ps) = subst
     (λ o. MatchOption o (¬ AreConsistent (pure_facts ps)) (IsStart c.args.k xs ps))
@@ -40,9 +40,9 @@ returns-in_default-clause-few c =
 
 pub fold-requires-clause-within : goal.fold-requires-clause-within
 fold-requires-clause-within c =
-    let xs = atoms_of c.args.parts.now in
+    let xs = c.args.atoms.now in
     let ps = c.args.pure.now in
-    let lists = lists_of c.args.table.now c.args.cell.now c.args.parts.now in
+    let lists = lists_of c.args.table.now c.args.cell.now c.args.atoms.now in
     let a : SymbolicHeap = record { pure = ps; spatial = xs } in
     let s : IsStart c.args.k xs ps c.in-Some.first = subst
     (λ o. MatchOption o (¬ AreConsistent (pure_facts ps)) (IsStart c.args.k xs ps))
@@ -53,9 +53,9 @@ fold-requires-clause-within c =
 
 pub returns-in_err-states-clause-many : goal.returns-in_err-states-clause-many
 returns-in_err-states-clause-many c e =
-    let xs = atoms_of c.args.parts.now in
+    let xs = c.args.atoms.now in
     let ps = c.args.pure.now in
-    let lists = lists_of c.args.table.now c.args.cell.now c.args.parts.now in
+    let lists = lists_of c.args.table.now c.args.cell.now c.args.atoms.now in
     let a : SymbolicHeap = record { pure = ps; spatial = xs } in
     let s : IsStart c.args.k xs ps c.in-Some.first = subst
     (λ o. MatchOption o (¬ AreConsistent (pure_facts ps)) (IsStart c.args.k xs ps))
@@ -70,9 +70,9 @@ returns-in_err-states-clause-many c e =
 
 pub returns-clause-given : goal.returns-clause-given
 returns-clause-given c =
-    let xs = atoms_of c.args.parts.now in
+    let xs = c.args.atoms.now in
     let ps = c.args.pure.now in
-    let lists = lists_of c.args.table.now c.args.cell.now c.args.parts.now in
+    let lists = lists_of c.args.table.now c.args.cell.now c.args.atoms.now in
     let a : SymbolicHeap = record { pure = ps; spatial = xs } in
     let s : IsStart c.args.k xs ps c.in-Some.first = subst
     (λ o. MatchOption o (¬ AreConsistent (pure_facts ps)) (IsStart c.args.k xs ps))
@@ -84,9 +84,9 @@ returns-clause-given c =
 
 pub returns-clause-few : goal.returns-clause-few
 returns-clause-few c =
-    let xs = atoms_of c.args.parts.now in
+    let xs = c.args.atoms.now in
     let ps = c.args.pure.now in
-    let lists = lists_of c.args.table.now c.args.cell.now c.args.parts.now in
+    let lists = lists_of c.args.table.now c.args.cell.now c.args.atoms.now in
     let a : SymbolicHeap = record { pure = ps; spatial = xs } in
     let s : IsStart c.args.k xs ps c.in-Some.first = subst
     (λ o. MatchOption o (¬ AreConsistent (pure_facts ps)) (IsStart c.args.k xs ps))
@@ -100,9 +100,9 @@ returns-clause-few c =
 
 pub returns-clause-many : goal.returns-clause-many
 returns-clause-many c e =
-    let xs = atoms_of c.args.parts.now in
+    let xs = c.args.atoms.now in
     let ps = c.args.pure.now in
-    let lists = lists_of c.args.table.now c.args.cell.now c.args.parts.now in
+    let lists = lists_of c.args.table.now c.args.cell.now c.args.atoms.now in
     let a : SymbolicHeap = record { pure = ps; spatial = xs } in
     let s : IsStart c.args.k xs ps c.in-Some.first = subst
     (λ o. MatchOption o (¬ AreConsistent (pure_facts ps)) (IsStart c.args.k xs ps))

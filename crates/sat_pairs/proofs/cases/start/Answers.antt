@@ -1,7 +1,6 @@
 use Rattle.std.proofs.Common.{◌≡◌, ◌∙◌, ap, refl, length}
 use Rattle.std.proofs.lemmas.Result.{IfOk-weaker}
 use Rattle.sat_pairs.specs.Numbers.{kept_numbers, with_pure_numbers, pure_pair_at, count_from}
-use Rattle.sat_pairs.specs.Parts.{atoms_of}
 use Rattle.sat_pairs.proofs.Starts.{start_is}
 use Rattle.pair_family.specs.BasePairs.{no_pair}
 use Rattle.sat_pairs.proofs.cases.start.Goals as goal
@@ -9,7 +8,7 @@ use Rattle.sat_pairs.proofs.cases.start.Goals as goal
 pub returns : goal.returns
 returns c =
     let k = c.args.k in
-    let xs = atoms_of c.args.parts.now in
+    let xs = c.args.atoms.now in
     let ps = c.args.pure.now in
     let first : c.in_ok-numbers.numbers.items ≡ kept_numbers k xs = c.in_ok-numbers.ensures in
     let pushed : c.push_pure.new.numbers.items ≡ with_pure_numbers (kept_numbers k xs) ps = c.in_ok-push_pure.ensures

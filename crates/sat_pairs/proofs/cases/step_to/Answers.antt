@@ -4,14 +4,13 @@ use Rattle.pair_family.specs.Folding.{spoken}
 use Rattle.pair_family.specs.LargeCases.{HasMore}
 use Rattle.sat_pairs.specs.CaseStates.{GivesBy, StepsBy}
 use Rattle.sat_pairs.specs.Numbers.{kept_numbers, with_numbers}
-use Rattle.sat_pairs.specs.Parts.{atoms_of}
 use Rattle.sat_pairs.proofs.cases.step_to.Goals as goal
 
 pub returns-clause-given : goal.returns-clause-given
 returns-clause-given c =
     let x = c.args.atom.now in
     let pairs = c.args.pairs.now in
-    let rest = kept_numbers c.args.k (atoms_of c.args.rest.now) in
+    let rest = kept_numbers c.args.k c.args.rest.now in
     let numbers : c.deref.result.now ≡ with_numbers rest (spoken x) = c.deref.ensures.value
     ∙ (c.in_ok-push_spoken.ensures ∙ ap (λ z. with_numbers z (spoken x)) c.in_ok-numbers.ensures) in
     let after : c.len-after.result ≡ length rest = c.len-after.ensures
@@ -23,7 +22,7 @@ pub returns-clause-many : goal.returns-clause-many
 returns-clause-many c e =
     let x = c.args.atom.now in
     let pairs = c.args.pairs.now in
-    let rest = kept_numbers c.args.k (atoms_of c.args.rest.now) in
+    let rest = kept_numbers c.args.k c.args.rest.now in
     let numbers : c.deref.result.now ≡ with_numbers rest (spoken x) = c.deref.ensures.value
     ∙ (c.in_ok-push_spoken.ensures ∙ ap (λ z. with_numbers z (spoken x)) c.in_ok-numbers.ensures) in
     let after : c.len-after.result ≡ length rest = c.len-after.ensures

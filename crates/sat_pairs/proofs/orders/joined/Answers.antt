@@ -3,7 +3,6 @@ use Rattle.std.specs.Prelude.{vec_len}
 use Rattle.std.proofs.lemmas.Bool.{eqb-true}
 use Rattle.std.proofs.lemmas.List.{nil_from_length}
 use Rattle.pair_family.specs.JoinOrder.{cheapest}
-use Rattle.sat_pairs.specs.Parts.{atoms_of}
 use Rattle.sat_pairs.proofs.Joins.{joined_more, joined_none}
 use Rattle.sat_pairs.proofs.orders.joined.Goals as goal
 
@@ -13,11 +12,11 @@ loop-ordered-init c = λ out j. j
 pub loop-ordered-preserved : goal.loop-ordered-preserved
 loop-ordered-preserved c = λ out j. c.loop-ordered.invariant out
     (joined_more c.args.k c.loop-ordered.ordered.items c.push.new.self.items c.loop-ordered.left.items
-    c.remove-part.new.self.items out c.cheapest-place.result c.remove-part.result
-    (c.cheapest-place.ensures.place ∙ (λ z. cheapest c.args.k (atoms_of (c.deref.ensures.value z))
-    (atoms_of (c.deref-in-loop-ordered.ensures.value z)))) (subst (λ z. c.cheapest-place.result < length z)
+    c.remove-atom.new.self.items out c.cheapest-place.result c.remove-atom.result
+    (c.cheapest-place.ensures.place ∙ (λ z. cheapest c.args.k (c.deref.ensures.value z)
+    (c.deref-in-loop-ordered.ensures.value z))) (subst (λ z. c.cheapest-place.result < length z)
     c.deref-in-loop-ordered.ensures.value c.cheapest-place.ensures.within)
-    c.remove-part.ensures.value c.remove-part.ensures.by_index.2 c.in_ok-push.ensures.items j)
+    c.remove-atom.ensures.value c.remove-atom.ensures.by_index.2 c.in_ok-push.ensures.items j)
 
 pub returns : goal.returns
 returns c =

@@ -9,8 +9,8 @@ use Rattle.pair_family.proofs.Large.{large_within}
 use Rattle.pair_family.proofs.Rounds.{gives_within}
 use Rattle.sat_pairs.specs.declared.rounds.PairFault.TheVariants as faults
 use Rattle.sat_pairs.specs.Growth.{pair_fault_of}
-use Rattle.sat_pairs.specs.Parts.{HasSome}
-use Rattle.sat_pairs.specs.Stages.{parts_of}
+use Rattle.sat_pairs.specs.Atoms.{HasSome}
+use Rattle.sat_pairs.specs.Stages.{atoms_of}
 use Rattle.sat_pairs.specs.Turns.{IsDone, IsTurn, heap_of}
 use Rattle.sat_pairs.proofs.Taken.{case_sound, large_there, states_fault}
 use Rattle.sat_pairs.proofs.Turned.{done_none, done_put, index_member, turn_put}
@@ -20,11 +20,11 @@ pub returns-then-not-have_pairs-clause-done : goal.returns-then-not-have_pairs-c
 returns-then-not-have_pairs-clause-done c =
     done_none c.args.defs.now.list c.args.limits.states c.args.table.now c.args.cell.now c.args.turn.now
     c.requires.cell c.requires.turn (λ h. both_ways false refl (c.if-not-have_pairs.ensures.1
-    (subst (λ z. HasSome c.args.table.now c.args.cell.now (parts_of z)) (sym c.deref.ensures.value) h)))
+    (subst (λ z. HasSome c.args.table.now c.args.cell.now (atoms_of z)) (sym c.deref.ensures.value) h)))
 
 pub take_in-requires-clause-some : goal.take_in-requires-clause-some
 take_in-requires-clause-some c =
-    subst (λ z. HasSome c.args.table.now c.args.cell.now (parts_of z)) c.deref.ensures.value
+    subst (λ z. HasSome c.args.table.now c.args.cell.now (atoms_of z)) c.deref.ensures.value
     (c.if-not-have_pairs.ensures.0 refl)
 
 pub put_found-requires-clause-there : goal.put_found-requires-clause-there

@@ -7,8 +7,8 @@ use Rattle.pair_family.specs.Reordering.{families_of}
 use Rattle.pair_family.specs.Within.{IsWithin}
 use Rattle.pair_family.specs.declared.states.states.StatesFault.TheVariants.{TooManyStates}
 use Rattle.sat_pairs.specs.CaseStates.{PassesFrom}
-use Rattle.sat_pairs.specs.Parts.{atoms_of, lists_of}
-use Rattle.sat_pairs.specs.Stages.{AreStages, outcome, parts_of}
+use Rattle.sat_pairs.specs.Atoms.{lists_of}
+use Rattle.sat_pairs.specs.Stages.{AreStages, atoms_of, outcome}
 use Rattle.sat_pairs.proofs.Advanced.{first_passes, next_done, next_passes, next_stages, next_within}
 use Rattle.sat_pairs.proofs.stages.+advance.Goals as goal
 
@@ -49,7 +49,7 @@ advance-requires t c =
       (
         c.requires.cell,
         (
-          subst (Each (IsWithin (suc (length (kept_terms k (atoms_of (parts_of rest))))))) (sym keys) within,
+          subst (Each (IsWithin (suc (length (kept_terms k (atoms_of rest)))))) (sym keys) within,
           (
             omega arith,
             subst (λ z. AreStages c.args._most c.args.table.now c.args.cell.now k z c.len-old.result rest) (sym keys)
@@ -70,8 +70,8 @@ returns-clause-many t c e =
     c.args.stages.now s rest c.in-Some.ensures.cases.0 c.requires.cell c.requires.within c.requires.stages
     c.pairs_of_atom-pairs.result.now c.pairs_of_atom-pairs.ensures new c.in_ok-take_in.ensures.same
     c.in_ok-take_in.ensures.extends c.in_ok-take_in.ensures.taken c.in_ok-take_in.ensures.full
-    (subst (λ z. PassesFrom c.args._most (families_of (lists_of c.args.table.now c.args.cell.now (parts_of rest)))
-    (frames_of k (atoms_of (parts_of rest))) z (atoms_of (parts_of rest))) c.as_slice.ensures.keys
+    (subst (λ z. PassesFrom c.args._most (families_of (lists_of c.args.table.now c.args.cell.now (atoms_of rest)))
+    (frames_of k (atoms_of rest)) z (atoms_of rest)) c.as_slice.ensures.keys
     (c.advance.ensures.many e))
 
 -- what was found stays in front

@@ -1,7 +1,8 @@
 use Rattle.std.proofs.Common.{◌≡◌, ◌<◌, [], length, sym, subst, arith}
 use Rattle.std.specs.Prelude.{slice_index_or}
 use Rattle.sat_pairs.specs.Turns.{IsNewTurn}
-use Rattle.sat_pairs.proofs.Turned.{pushed_each, pushed_had, pushed_has, read_at}
+use Rattle.sat_pairs.proofs.TakenOut.{read_at}
+use Rattle.sat_pairs.proofs.Turned.{pushed_each, pushed_had, pushed_has}
 use Rattle.sat_pairs.proofs.turns.push_turns.Goals as goal
 
 pub turn_of-requires-clause-place : goal.turn_of-requires-clause-place

@@ -1,6 +1,7 @@
-use Rattle.std.proofs.Common.{◌++◌, refl, sym, subst}
+use Rattle.std.proofs.Common.{◌≡◌, ◌++◌, refl, sym, subst}
+use Rattle.pair_family.specs.JoinOrder.{join_order}
+use Rattle.pair_family.specs.Reordering.{Reorders}
 use Rattle.sat_pairs.specs.declared.turns.Turn.{Turn}
-use Rattle.sat_pairs.specs.Parts.{AreWhole, atoms_of}
 use Rattle.sat_pairs.specs.Stages.{AreFresh}
 use Rattle.sat_pairs.specs.Turns.{IsFirst, IsTurnOf, case_at}
 use Rattle.sat_pairs.proofs.Turned.{new_turn}
@@ -10,7 +11,6 @@ pub returns-clause-new : goal.returns-clause-new
 returns-clause-new c = λ table cell.
     let k = c.args.k in
     let a = c.args.case.now in
-    let parts = c.in_ok-parts.parts.items in
     let ordered = c.in_ok-ordered.ordered.items in
     let t : Turn = record {
       pred = c.args.pred;
@@ -20,17 +20,16 @@ returns-clause-new c = λ table cell.
       stages = c.push_stages.new.stages;
       put = 0;
     } in
-    let whole = subst (λ z. AreWhole z parts) c.spatial.ensures.value c.in_ok-parts.ensures in
-    let first = subst (λ z. IsFirst k (atoms_of ordered) z c.in_ok-first.first.items) c.pure.ensures.value
-    (subst (λ z. IsFirst k (atoms_of z) c.pure.result.now c.in_ok-first.first.items) c.deref.ensures.value
+    let all = subst (Reorders ordered) c.spatial.ensures.value c.in_ok-ordered.ensures.all in
+    let order = subst (λ z. ordered ≡ join_order k z) c.spatial.ensures.value c.in_ok-ordered.ensures.order in
+    let first = subst (λ z. IsFirst k ordered z c.in_ok-first.first.items) c.pure.ensures.value
+    (subst (λ z. IsFirst k z c.pure.result.now c.in_ok-first.first.items) c.deref.ensures.value
     c.in_ok-first.ensures) in
     let pushed = c.in_ok-push_stages.ensures in
-    let more = subst (λ z. AreFresh c.args.most k (atoms_of z) pushed.0) c.deref-2.ensures.value pushed.2 in
-    let fresh = subst (λ z. AreFresh c.args.most k (atoms_of ordered) (z ++ pushed.0)) (sym c.new-stages.ensures.items)
-    more in
-    let new = new_turn k c.args.most a table cell parts ordered t whole c.in_ok-ordered.ensures.all
-    c.in_ok-ordered.ensures.order first (subst (AreFresh c.args.most k (atoms_of ordered)) (sym pushed.1) fresh)
-    refl refl in
+    let more = subst (λ z. AreFresh c.args.most k z pushed.0) c.deref-2.ensures.value pushed.2 in
+    let fresh = subst (λ z. AreFresh c.args.most k ordered (z ++ pushed.0)) (sym c.new-stages.ensures.items) more in
+    let new = new_turn k c.args.most a table cell ordered t all order first
+    (subst (AreFresh c.args.most k ordered) (sym pushed.1) fresh) refl refl in
     record {
       pred = c.requires.pred;
       place = c.requires.place;

@@ -1,8 +1,7 @@
-use Rattle.std.proofs.Common.{sym, ◌∙◌}
 use Rattle.symbolic_exec.proofs.ProgramLines.{few_fields}
 use Rattle.symbolic_exec.proofs.exec.exec.Goals as goal
 
 pub command_premises-requires-clause-few : goal.command_premises-requires-clause-few
 command_premises-requires-clause-few c =
-    few_fields c.args.program.now c.lines-lines.ensures.program c.in-Term.line c.in-Some.command
-    (sym c.command_at.ensures ∙ c.in-Some.is)
+    few_fields c.args.program.now c.lines-lines.ensures.program c.in-Term.line c.in-Some.command.now
+    c.in-Some.ensures

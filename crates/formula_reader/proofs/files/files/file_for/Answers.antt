@@ -29,7 +29,7 @@ pub invariant_of-result-clause-universal : goal.invariant_of-result-clause-unive
 invariant_of-result-clause-universal c =
     let p = c.args.problem.now in
     subst (λ (lines : List Command). are_universal_commands lines ≡ true) (sym c.in_ok-program.ensures.cases)
-    (commands_universal p.program (problem_keeps p).program.universal)
+    (commands_universal p.version p.defs.most p.program (problem_keeps p).program.universal (problem_keeps p).commands)
 
 pub invariant_of-result-clause-at_lines : goal.invariant_of-result-clause-at_lines
 invariant_of-result-clause-at_lines c =

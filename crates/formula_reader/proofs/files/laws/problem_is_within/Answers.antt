@@ -7,5 +7,8 @@ returns-clause-definitions c = (problem_keeps c.args._problem.now).definitions
 pub returns-clause-program : goal.returns-clause-program
 returns-clause-program c = (problem_keeps c.args._problem.now).program
 
+pub returns-clause-ends : goal.returns-clause-ends
+returns-clause-ends c = (problem_keeps c.args._problem.now).ends
+
 pub returns-clause-goal : goal.returns-clause-goal
 returns-clause-goal c = (problem_keeps c.args._problem.now).goal

@@ -11,7 +11,7 @@ use Rattle.general_models.proofs.runs.fresh.fresh_state_after.Goals as goal
 pub returns-then-not-is_fresh_from : goal.returns-then-not-is_fresh_from
 returns-then-not-is_fresh_from c = λ k e r.
     not_fresh c.args.program.now c.args.w c.args.picks.now c.args.first (state_of c.args.start.now)
-    c.loop-done.done c.args.steps c.loop-done.used k (state_of c.loop-done.current) e c.command-command.result
+    c.loop-done.done c.args.steps c.loop-done.used k (state_of c.loop-done.current) e c.command-command.result.now
     (omega arith) c.loop-done.invariant.run c.command-command.ensures.there
     (excluded c.is_fresh_from.result c.if-not-is_fresh_from.true c.is_fresh_from.ensures) r
 
@@ -26,11 +26,11 @@ returns-in-None c = λ k e r.
 pub loop-done-preserved : goal.loop-done-preserved
 loop-done-preserved c =
     let x = fresh_more c.args.program.now c.args.w c.args.picks.now c.args.first (state_of c.args.start.now)
-    c.loop-done.done c.loop-done.used (state_of c.loop-done.current) c.command-command.result c.picks_of-used.result
+    c.loop-done.done c.loop-done.used (state_of c.loop-done.current) c.command-command.result.now c.picks_of-used.result
     c.in_ok-next_step.field-0 c.in-To.next c.loop-done.invariant.run c.command-command.ensures.there
     c.picks_of-used.ensures (c.is_fresh_from.ensures.0 c.if-not-is_fresh_from.false) c.in_ok-next_step.ensures
     c.in-To.is in
-    let l : picks_of c.command-command.result ≤ 1 = few_picks c.command-command.result in
-    let e : c.picks_of-used.result ≡ picks_of c.command-command.result = c.picks_of-used.ensures in
+    let l : picks_of c.command-command.result.now ≤ 1 = few_picks c.command-command.result.now in
+    let e : c.picks_of-used.result ≡ picks_of c.command-command.result.now = c.picks_of-used.ensures in
     let few : c.loop-done.used ≤ c.loop-done.done = c.loop-done.invariant.few in
     record { run = x.0; state = x.1; few = omega arith }

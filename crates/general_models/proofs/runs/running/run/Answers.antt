@@ -25,17 +25,17 @@ pub loop-done-preserved : goal.loop-done-preserved
 loop-done-preserved c =
     let r = run_more c.args.program.now c.args.w c.args.picks.now c.loop-done.done (state_of c.args.start.now)
     c.loop-done.used (state_of c.loop-done.current)
-    c.command.result c.picks_of-taken.result c.in_ok-cause.field-0 c.in-To.next c.loop-done.invariant.run
+    c.command.result.now c.picks_of-taken.result c.in_ok-cause.field-0 c.in-To.next c.loop-done.invariant.run
     c.command.ensures.there c.picks_of-taken.ensures c.in_ok-cause.ensures c.in-To.is in
-    let l : picks_of c.command.result ≤ 1 = few_picks c.command.result in
-    let e : c.picks_of-taken.result ≡ picks_of c.command.result = c.picks_of-taken.ensures in
+    let l : picks_of c.command.result.now ≤ 1 = few_picks c.command.result.now in
+    let e : c.picks_of-taken.result ≡ picks_of c.command.result.now = c.picks_of-taken.ensures in
     let few : c.loop-done.used ≤ c.loop-done.done = c.loop-done.invariant.few in
     record { run = r.0; state = r.1; few = omega arith }
 
 pub overflow_add-used : goal.overflow_add-used
 overflow_add-used c =
-    let l : picks_of c.command.result ≤ 1 = few_picks c.command.result in
-    let e : c.picks_of-taken.result ≡ picks_of c.command.result = c.picks_of-taken.ensures in
+    let l : picks_of c.command.result.now ≤ 1 = few_picks c.command.result.now in
+    let e : c.picks_of-taken.result ≡ picks_of c.command.result.now = c.picks_of-taken.ensures in
     let few : c.loop-done.used ≤ c.loop-done.done = c.loop-done.invariant.few in
     omega arith
 

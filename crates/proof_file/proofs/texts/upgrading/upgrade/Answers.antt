@@ -1,4 +1,4 @@
-use Rattle.std.proofs.Common.{◌≡◌, ap, subst, sym, ◌∙◌, true, None}
+use Rattle.std.proofs.Common.{◌≡◌, ap, subst, sym, ◌∙◌, true}
 use Rattle.pred_defs.specs.Book.{DefinitionBook}
 use Rattle.proof_syntax.specs.Grammar.{file}
 use Rattle.proof_file.specs.Flaws.{file_flaw}

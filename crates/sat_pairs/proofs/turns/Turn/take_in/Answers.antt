@@ -14,24 +14,19 @@ use Rattle.pair_family.specs.Within.{IsWithin}
 use Rattle.pair_family.specs.declared.states.states.StatesFault.TheVariants.{TooManyStates}
 use Rattle.cyc_basics.specs.Words.{IsMember}
 use Rattle.pair_family.proofs.Growing.{extends_self}
-use Rattle.sat_pairs.specs.declared.parts.Part.{Part}
-use Rattle.sat_pairs.specs.declared.parts.Share.TheVariants.{All}
 use Rattle.sat_pairs.specs.declared.stages.Stage.{Stage}
 use Rattle.sat_pairs.specs.declared.turns.Turn.{Turn}
 use Rattle.sat_pairs.specs.CaseStates.{PassesFrom}
-use Rattle.sat_pairs.specs.Parts.{atoms_of, lists_of}
-use Rattle.sat_pairs.specs.Stages.{AreStages, outcome, parts_of}
+use Rattle.sat_pairs.specs.Atoms.{lists_of}
+use Rattle.sat_pairs.specs.Stages.{AreStages, atoms_of, outcome}
 use Rattle.sat_pairs.specs.Turns.{found_by, heap_of, width_of}
 use Rattle.sat_pairs.proofs.Taken.{cases_below}
 use Rattle.sat_pairs.proofs.Turned.{large_case, large_first, taken_found, taken_small, turn_taken, turn_within}
 use Rattle.sat_pairs.proofs.turns.Turn.take_in.Goals as goal
 
-abbrev one_part : Stage → Part
-one_part s = record { atom = s.atom; share = All }
-
-same_length : (ss rs : List Stage) → parts_of rs ≡ parts_of ss → length rs ≡ length ss
-same_length ss rs e = sym (length-map rs (λ (s : Stage). one_part s))
-    ∙ (ap length e ∙ length-map ss (λ (s : Stage). one_part s))
+same_length : (ss rs : List Stage) → atoms_of rs ≡ atoms_of ss → length rs ≡ length ss
+same_length ss rs e = sym (length-map rs (λ (s : Stage). s.atom))
+    ∙ (ap length e ∙ length-map ss (λ (s : Stage). s.atom))
 
 pub returns-then-not-are_within-clause-large : goal.returns-then-not-are_within-clause-large
 returns-then-not-are_within-clause-large c e =
@@ -46,7 +41,7 @@ returns-then-not-are_within-clause-large c e =
           absurd (both_ways false refl (c.if-not-are_within.ensures.1
           (subst (λ z. sizes z ≤ most) (sym c.deref.ensures.value) g)))
     ] in
-    let xs = parts_of t.stages.items in
+    let xs = atoms_of t.stages.items in
     subst (λ z. IsLarge most (in_table c.args.table.now) z (heap_of ds t)) (sym c.requires.arity)
     (large_case (width_of ds t) (heap_of ds t) c.args.table.now c.args.cell.now xs is.ordered most first is.first
     c.requires.some (large_first (width_of ds t) (heap_of ds t) c.args.table.now c.args.cell.now xs is.ordered most
@@ -57,11 +52,11 @@ advance-requires-clause-within c =
     let ds = c.args._defs.now.list in
     let t = c.args.self.now in
     let w = turn_within ds c.args.most c.args.table.now c.args.cell.now t c.requires.cell c.requires.turn in
-    subst (λ k. Each (IsWithin (suc (length (kept_terms k (atoms_of (parts_of c.deref_mut.result.now))))))
+    subst (λ k. Each (IsWithin (suc (length (kept_terms k (atoms_of c.deref_mut.result.now)))))
     c.deref-2.result.now) (sym c.requires.arity)
-    (subst (λ z. Each (IsWithin (suc (length (kept_terms (width_of ds t) (atoms_of (parts_of z))))))
+    (subst (λ z. Each (IsWithin (suc (length (kept_terms (width_of ds t) (atoms_of z)))))
     c.deref-2.result.now) (sym c.deref_mut.ensures.value)
-    (subst (Each (IsWithin (suc (length (kept_terms (width_of ds t) (atoms_of (parts_of t.stages.items)))))))
+    (subst (Each (IsWithin (suc (length (kept_terms (width_of ds t) (atoms_of t.stages.items))))))
     (sym c.deref-2.ensures.value) w))
 
 pub returns-in_err-advance-clause-large : goal.returns-in_err-advance-clause-large
@@ -77,14 +72,14 @@ returns-in_err-advance-clause-large c e =
     let q2 = q.2 in
     let f : c.in_err-advance.field-0.0 ≡ TooManyStates = cc in
     let p = c.in_err-advance.ensures.many (ap Err f) in
-    let p1 = subst (λ z. PassesFrom most (families_of (lists_of T cell (parts_of z)))
-    (frames_of c.args.k (atoms_of (parts_of z))) c.deref-2.result.now (atoms_of (parts_of z))) c.deref_mut.ensures.value
+    let p1 = subst (λ z. PassesFrom most (families_of (lists_of T cell (atoms_of z)))
+    (frames_of c.args.k (atoms_of z)) c.deref-2.result.now (atoms_of z)) c.deref_mut.ensures.value
     p in
-    let xs = parts_of t.stages.items in
-    let p2 = subst (λ z. PassesFrom most (families_of (lists_of T cell xs)) (frames_of c.args.k (atoms_of xs)) z
-    (atoms_of xs)) c.deref-2.ensures.value p1 in
-    let p3 = subst (λ k. PassesFrom most (families_of (lists_of T cell xs)) (frames_of k (atoms_of xs)) t.first.items
-    (atoms_of xs)) c.requires.arity p2 in
+    let xs = atoms_of t.stages.items in
+    let p2 = subst (λ z. PassesFrom most (families_of (lists_of T cell xs)) (frames_of c.args.k xs) z
+    xs) c.deref-2.ensures.value p1 in
+    let p3 = subst (λ k. PassesFrom most (families_of (lists_of T cell xs)) (frames_of k xs) t.first.items
+    xs) c.requires.arity p2 in
     subst (λ z. IsLarge most (in_table T) z (heap_of ds t)) (sym c.requires.arity)
     (large_case (width_of ds t) (heap_of ds t) T cell xs is.ordered most t.first.items is.first c.requires.some p3)
 
@@ -97,7 +92,7 @@ returns-clause-turn c =
     let cell = c.args.cell.now in
     let first = t.first.items in
     let new = c.advance.new.stages in
-    let same = c.in_ok-advance.ensures.same ∙ ap parts_of c.deref_mut.ensures.value in
+    let same = c.in_ok-advance.ensures.same ∙ ap atoms_of c.deref_mut.ensures.value in
     let a = subst (λ k. AreStages most T cell k first (length first) new) c.requires.arity
     (subst (λ z. AreStages most T cell c.args.k z (length z) new) c.deref-2.ensures.value
     c.in_ok-advance.ensures.stages) in
@@ -126,7 +121,7 @@ returns-clause-found c =
     let cell = c.args.cell.now in
     let first = t.first.items in
     let new = c.advance.new.stages in
-    let same = c.in_ok-advance.ensures.same ∙ ap parts_of c.deref_mut.ensures.value in
+    let same = c.in_ok-advance.ensures.same ∙ ap atoms_of c.deref_mut.ensures.value in
     let a = subst (λ k. AreStages most T cell k first (length first) new) c.requires.arity
     (subst (λ z. AreStages most T cell c.args.k z (length z) new) c.deref-2.ensures.value
     c.in_ok-advance.ensures.stages) in
@@ -157,7 +152,7 @@ returns-clause-small c =
     let cell = c.args.cell.now in
     let first = t.first.items in
     let new = c.advance.new.stages in
-    let same = c.in_ok-advance.ensures.same ∙ ap parts_of c.deref_mut.ensures.value in
+    let same = c.in_ok-advance.ensures.same ∙ ap atoms_of c.deref_mut.ensures.value in
     let a = subst (λ k. AreStages most T cell k first (length first) new) c.requires.arity
     (subst (λ z. AreStages most T cell c.args.k z (length z) new) c.deref-2.ensures.value
     c.in_ok-advance.ensures.stages) in

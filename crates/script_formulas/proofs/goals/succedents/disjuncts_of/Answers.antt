@@ -1,14 +1,14 @@
 use Rattle.std.proofs.Common.{◌≡◌, ◌++◌, ◌∷◌, [], arith}
 use Rattle.std.proofs.lemmas.Grind.{common_steps}
-use Rattle.script_formulas.specs.declared.goals.heaps.Variables.TheVariants.{Known}
-use Rattle.script_formulas.specs.Translating.{IsHeapOf}
+use Rattle.script_formulas.specs.declared.goals.heaps.Free.TheVariants.{Placed}
+use Rattle.script_formulas.specs.Translating.{IsCaseOf}
 use Rattle.script_formulas.proofs.Zipping.{zip_more}
 use Rattle.script_formulas.proofs.goals.succedents.disjuncts_of.Goals as goal
 
 pub loop-case-preserved : goal.loop-case-preserved
 loop-case-preserved c =
-    let heap = c.in_ok-heap_of.field-0 in
+    let heap = c.in_ok-case_heap.field-0 in
     let pushed : c.push.new.self.items ≡ c.loop-case.heaps.items ++ heap ∷ [] = grind (arith, common_steps) in
-    zip_more (IsHeapOf c.args.numbers.now (Known c.args.constants)) c.args.cases.now c.loop-case.case-index
+    zip_more (IsCaseOf c.args.numbers.now (Placed c.args.universals.constants c.args.universals.order)) c.args.cases.now c.loop-case.case-index
     c.case-item.result c.loop-case.heaps.items c.push.new.self.items heap c.loop-case-test.true c.case-item.is
-    pushed c.loop-case.invariant c.in_ok-heap_of.ensures
+    pushed c.loop-case.invariant c.in_ok-case_heap.ensures

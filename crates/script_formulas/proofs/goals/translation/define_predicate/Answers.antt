@@ -2,7 +2,7 @@ use Rattle.std.proofs.Common.{◌≡◌, ◌∙◌, length, false, arith, sym, a
 use Rattle.std.specs.Prelude.{IfOk, OnOk}
 use Rattle.std.specs.List.{list_any}
 use Rattle.std.proofs.lemmas.Grind.{common_steps}
-use Rattle.script_formulas.specs.declared.goals.heaps.Variables.TheVariants.{Known}
+use Rattle.script_formulas.specs.declared.goals.heaps.Free.TheVariants.{Known}
 use Rattle.script_formulas.specs.Translating.{AreHeapsOf}
 use Rattle.script_formulas.specs.Defining.{HasDefined}
 use Rattle.script_formulas.proofs.GoalSteps.{closed_all}

@@ -1,6 +1,5 @@
-use Rattle.std.proofs.Common.{◌≡◌, map, length, arith, subst, refl, sym}
+use Rattle.std.proofs.Common.{◌≡◌, map, length, subst, refl, sym}
 use Rattle.std.specs.Prelude.{IfOk}
-use Rattle.std.proofs.lemmas.Grind.{common_steps}
 use Rattle.script_formulas.specs.Translating.{AreToldApart}
 use Rattle.script_formulas.specs.Defining.{IsAsked, IsJudgement}
 use Rattle.script_formulas.proofs.goals.translation.goal_of_sides.Goals as goal
@@ -14,10 +13,14 @@ returns c =
     let own = c.in_ok-building.building.defs.list in
     let called = c.judgement_of-goal.new.building.defs.list in
     let question = c.in_ok-question.question in
-    let given = c.len-constants.result in
-    let size : given ≡ length script.constants.items = grind (arith, common_steps) in
-    let judged = subst (λ r. IfOk r (λ goal. IsJudgement numbers given first second own called goal))
+    let given = c.in_ok-constants.constants in
+    let order = c.in_ok-order.order.items in
+    let size : given ≡ length script.constants.items = subst (λ r. IfOk r (λ n. n ≡ length script.constants.items))
+    c.in_ok-constants.ensures c.constant_count.ensures in
+    let made = subst (λ r. IfOk r (λ goal. IsJudgement numbers given c.deref-3.result.now first second own called goal))
     c.in_ok-goal.ensures c.judgement_of-goal.ensures in
+    let judged = subst (λ l. IsJudgement numbers given l first second own called c.in_ok-goal.goal)
+    c.deref-3.ensures.value made in
     record {
       sorted = c.requires.sorted;
       numbers = numbers;
@@ -34,7 +37,8 @@ returns c =
       asked = subst (λ l. IsAsked question first l) c.deref-2.ensures.value (subst (λ l. IsAsked question l
           c.deref-2.result.now) c.deref.ensures.value c.in_ok-question.ensures);
       defined = c.in_ok-building.ensures;
-      judged = subst (λ ds. IsJudgement numbers (length script.constants.items) first second own ds
+      order = order;
+      judged = subst (λ ds. IsJudgement numbers (length script.constants.items) order first second own ds
           c.in_ok-goal.goal) (sym c.finished-defs.ensures)
-          (subst (λ n. IsJudgement numbers n first second own called c.in_ok-goal.goal) size judged);
+          (subst (λ n. IsJudgement numbers n order first second own called c.in_ok-goal.goal) size judged);
     }
