@@ -141,8 +141,8 @@ module _ (limit : Limits) (ds : List Definition) where
   }
 
   ends_prop : (c : Command) → IsProp (IsCommandWithin limit ds c)
-  ends_prop (commands.Ends bs) p q =
-      λ i. (each_prop (IsHeapWithin limit ds) heap_prop bs p.0 q.0 i, (le_prop p.1.0 q.1.0 i, le_prop p.1.1 q.1.1 i))
+  ends_prop (commands.Ends bs) =
+      λ p q i. (each_prop (IsHeapWithin limit ds) heap_prop bs p.0 q.0 i, le_prop p.1 q.1 i, le_prop p.2 q.2 i)
   ends_prop (commands.Assign x t) = Unit-prop
   ends_prop (commands.Load x t k) = Unit-prop
   ends_prop (commands.Store t k u) = Unit-prop
