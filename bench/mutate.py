@@ -15,7 +15,7 @@ ILL = rb"(duplicate|parameter|unknown|arity|numbering|jump|falls-off|no-line|add
 ODD = rb"ill-formed (judgement from|constructive (case \d+ \d+|ask \d+))\n"
 STEPS = rb"( \d+\.\d+)*"
 LINES = {
-    0: rb"accepted (entailment|termination|first-order) nodes \d+ links \d+\n|satisfiable\n|holds\n",
+    0: rb"accepted (entailment|termination|correctness|first-order) nodes \d+ links \d+\n|satisfiable\n|holds\n",
     1: rb"refused (node \d+ " + FAULT + rb"|path stem" + STEPS + rb" cycle( \d+\.\d+)+)\n|unsatisfiable\n|fails\n",
     2: rb"usage: cyclist check \|.*\n",
     3: rb"unreadable ((byte|utf8|number|name) offset \d+|syntax token \d+) " + PLACE + rb"\n",
@@ -32,6 +32,16 @@ WORDS = {
     ".foproblem": [["fo", "--depth", "5"]],
 }
 TAKEN_BY = {"prove": ("check", rb"accepted .*\n"), "upgrade": ("upgrade", None), "disprove": ("model", rb"holds\n"), "fo": ("fo-check", rb"accepted .*\n")}
+# What `solve` says on its first line, beside the lines of the other programs.
+SCRIPT = rb"(depth|size|sorts|constants|predicates|constructors|arguments|fields|locals|pure|spatial|variable|cases|disjunction)"
+SOLVED = {
+    0: rb"holds( antecedent unsatisfiable)?|unsat|sat",
+    1: rb"fails|unsat|sat",
+    4: rb"(ill-formed (sort|question)|unsupported [a-z-]+) token \d+ " + PLACE,
+    5: rb"limit (text|" + SCRIPT + rb" token \d+ " + PLACE + rb")",
+    6: rb"unknown",
+}
+BEGINS = re.compile(rb"^cyclist (problem|proof|model|run) \d;$", re.M)
 # What stands at the token that a fault names, and right before it: names, numbers, or these words; and whether the name is one
 # that the text declares.
 NAME, NUMBER = rb"[A-Za-z_]\w*", rb"\d+"
@@ -40,10 +50,10 @@ ABOUT = {
     b"unknown": (NAME, None, False),
     b"arity": (NAME, None, True),
     b"parameter": (NUMBER, rb"\$", None),
-    b"numbering": (NUMBER, rb"line", None),
+    b"numbering": (NUMBER, rb"line|ends", None),
     b"jump": (NUMBER, rb"goto", None),
     b"falls-off": (rb"line", None, None),
-    b"no-line": (NUMBER, rb"from", None),
+    b"no-line": (NUMBER, rb"from|ends", None),
     b"address": (NUMBER, None, None),
     b"constant": (NUMBER, NAME, None),
     b"constructors": (rb"con", None, None),
@@ -85,10 +95,10 @@ def change_number(chance, text, _texts):
     return b"".join(tokens)
 
 
-def run(words, text):
-    """Returns the status and what the program writes, or None where it is not done within 5 seconds."""
+def run(words, text, seconds=5):
+    """Returns the status and what the program writes, or None where it is not done within so many seconds."""
     try:
-        done = subprocess.run(words, input=text, capture_output=True, timeout=5)
+        done = subprocess.run(words, input=text, capture_output=True, timeout=seconds)
     except subprocess.TimeoutExpired:
         return None
     return done.returncode, done.stdout, done.stderr
@@ -156,9 +166,39 @@ def complaint(chance, program, words, text):
     return status, None
 
 
-def main(count, seed, program, folder):
+def shown(program, solver, certificate):
+    """Returns what is wrong with what stands after the first line of `solve`, if anything is."""
+    starts = [it.start() for it in BEGINS.finditer(certificate)]
+    for start, end in zip(starts, [*starts[1:], len(certificate)]):
+        part = certificate[start:end]
+        kind = BEGINS.match(part)[1]
+        words = {b"problem": [program, "sat"], b"proof": [program, "check"], b"model": [program, "model"], b"run": [solver]}[kind]
+        wanted = {b"problem": rb"(un)?satisfiable\n|limit (pairs|states)\n", b"proof": rb"accepted .*\n", b"model": rb"holds\n|" + ODD}.get(kind, rb"holds\n")
+        told = run(words, part, 30)
+        if told is None or not re.fullmatch(wanted, told[1]):
+            return f"the {kind.decode()} that was written is answered by {told}"
+    return None
+
+
+def unsolved(program, solver, text):
+    """Returns the status of `solve`, and what is wrong with its answer, if anything is."""
+    ran = run([solver, "--effort", "1"], text, 60)
+    if ran is None:
+        return None, "no answer within a minute"
+    status, wrote, said = ran
+    first, _, rest = wrote.partition(b"\n")
+    known = [it for it in (SOLVED.get(status), LINES.get(status) if status > 2 else None) if it]
+    if said or not any(re.fullmatch(it, first) or re.fullmatch(it, first + b"\n") for it in known):
+        return status, f"status {status} with {first!r}, and on standard error {said!r}"
+    if status in (0, 1, 6):
+        return status, shown(program, solver, rest)
+    return status, None
+
+
+def main(count, seed, program, folder, solver=None):
     chance = random.Random(seed)
-    names = sorted(it for it in glob.glob(f"{folder}/**/*", recursive=True) if os.path.splitext(it)[1] in WORDS)
+    kinds = (".problem", ".smt2") if solver else WORDS
+    names = sorted(it for it in glob.glob(f"{folder}/**/*", recursive=True) if os.path.splitext(it)[1] in kinds)
     texts = []
     for name in names:
         with open(name, "rb") as it:
@@ -169,8 +209,8 @@ def main(count, seed, program, folder):
         text = texts[at]
         for _ in range(chance.choice([1, 1, 1, 2, 3])):
             text = chance.choice([change_byte, change_token, change_number, change_number])(chance, text, texts)
-        words = chance.choice(WORDS[os.path.splitext(names[at])[1]])
-        status, wrong = complaint(chance, program, words, text)
+        words = ["solve"] if solver else chance.choice(WORDS[os.path.splitext(names[at])[1]])
+        status, wrong = unsolved(program, solver, text) if solver else complaint(chance, program, words, text)
         if wrong:
             with tempfile.NamedTemporaryFile(prefix="mutated-", delete=False) as it:
                 it.write(text)
