@@ -99,6 +99,32 @@ UNREADABLE = [
         b'  ^\n'
         b'"end" was found; the end of the text was expected behind ";" in line 3\n',
     ),
+    # A free branch in a version that has none.
+    (
+        b'cyclist problem 1;\n'
+        b'line 1 : if * goto 1;\n',
+        b'  line 1 : if * goto 1;\n'
+        b'              ^\n'
+        b'"*" was found; a name or "nil" was expected; version 1 has no "if *"\n',
+    ),
+    # The pure atoms of an end.
+    (
+        b'cyclist problem 3;\n'
+        b'line 1 : stop;\n'
+        b'ends 1 : ls(x, y);\n',
+        b'  ends 1 : ls(x, y);\n'
+        b'             ^\n'
+        b'"(" was found; "=", "!=" or "\'" was expected; pure atoms or "true" and then ":" stand before the spatial atoms, as in true : ls(x, y)\n',
+    ),
+    # An end in a version that has none.
+    (
+        b'cyclist problem 2;\n'
+        b'line 1 : stop;\n'
+        b'ends 1 : true : emp;\n',
+        b'  ends 1 : true : emp;\n'
+        b'  ^\n'
+        b'"ends" was found; "line" or "goal" was expected behind ";" in line 2; only version 3 has ends of programs\n',
+    ),
 ]
 
 # Texts that use a name, a number or a line wrongly, or pass a limit.
@@ -178,6 +204,29 @@ ILL_FORMED = [
         b'  line 1 : x := nil;\n'
         b'  ^\n'
         b'the last line has to be "stop" or "goto"\n',
+    ),
+    (
+        b'cyclist problem 3;\n'
+        b'line 1 : goto 2;\n'
+        b'line 2 : stop;\n'
+        b'ends 1 : true : emp;\n'
+        b'goal from 1 given true : emp;\n'
+        b'end;\n',
+        b'  ends 1 : true : emp;\n'
+        b'       ^\n'
+        b'an end has the number of a line with "stop"\n',
+    ),
+    (
+        b'cyclist problem 3;\n'
+        b'line 1 : stop;\n'
+        b'line 2 : stop;\n'
+        b'ends 2 : true : emp;\n'
+        b'ends 1 : true : emp;\n'
+        b'goal from 1 given true : emp;\n'
+        b'end;\n',
+        b'  ends 1 : true : emp;\n'
+        b'       ^\n'
+        b'ends stand in the order of their lines, one at each\n',
     ),
     (
         b'cyclist problem 1;\n'

@@ -1,6 +1,6 @@
 #!/usr/bin/env bash
 # bench/search.sh [PROGRAM [SOLVER [BEFORE]]]: seconds, and megabytes of memory at the most, of `prove` on each problem of examples/, and of
-# the free search on each of them and of examples/seek/, with the answers: the nodes and links of the proof that was written, or
+# the free search on each of them and of examples/solve/, with the answers: the nodes and links of the proof that was written, or
 # its line; what bench/field.sh prints of the problems of examples/field/; of `fo` on the first-order
 # problems of bench/first-order/; of two long searches; and derivations a second of five: one
 # that finds nothing, three that pass the limit of derivations, of which one tries many links and one none, and one at a program.
@@ -32,9 +32,9 @@ measure() { # PROBLEM COMMAND..
 
 echo prove
 for problem in "$top"/examples/*.problem; do measure "$problem" "$program" prove; done
-echo seek
-for problem in "$top"/examples/*.problem "$top"/examples/seek/*.problem; do measure "$problem" "$solver"; done
-echo 'seek, problems of the field'
+echo solve
+for problem in "$top"/examples/*.problem "$top"/examples/solve/*.problem; do measure "$problem" "$solver"; done
+echo 'solve, problems of the field'
 bash "$top/bench/field.sh" "$program" "$solver"
 echo fo
 for problem in "$top"/bench/first-order/*.foproblem; do measure "$problem" "$program" fo; done

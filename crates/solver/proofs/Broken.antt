@@ -15,7 +15,7 @@ use Rattle.heap_formula.proofs.Unions.{union_empty, union_same}
 use Rattle.goto_lang.proofs.Moves.{one_command}
 use Rattle.general_models.specs.declared.runs.picks.Pick.{Pick}
 use Rattle.general_models.specs.Runs.{PickedRun}
-use Rattle.general_models.proofs.Chains.{halts_chain}
+use Rattle.general_models.proofs.Chains.{Chain, halts_chain}
 use Rattle.general_models.proofs.Halting.{picked_goes}
 use Rattle.general_models.proofs.SomeOf.{no}
 use Rattle.solver.specs.Runs.{ComesTo, BreaksEnd}
@@ -26,7 +26,7 @@ still_halts : (End : EndMeaning) (lines : List Command) (w : ℕ) (picks : List 
 still_halts End lines w picks zero m c k d r h = (m, subst (Halts End lines w m) (sym r.1) h)
 still_halts End lines w picks (suc n) m c k d r h =
     let before = still_halts End lines w picks n m c r.0 r.1 r.2 h in
-    let step = (r.1, refl, picked_goes lines w (slice_get picks r.0) r.1 d r.3) in
+    let step : Chain lines w 1 r.1 d = (r.1, refl, picked_goes lines w (slice_get picks r.0) r.1 d r.3) in
     let after = halts_chain End lines w 1 before.0 r.1 d step before.1 in (after.0, after.2)
 
 module _ (ds : List Definition) (lines : List Command) (d : State) (bs : List SymbolicHeap)
@@ -57,9 +57,9 @@ broken_fails ds lines i a s h w picks steps positive begins broken holds =
 -- ---- what a test of a state tells
 
 module _ (ds : List Definition) (lines : List Command) (d : State) where
-  pub at_end : (bs : List SymbolicHeap) (yes : Bool) → command_at lines d ≡ Some (commands.Ends bs)
-      → IsTrue yes ↔ (¬ SatisfiesOne ds d.stack d.heap bs) → IsTrue yes ↔ BreaksEnd ds lines d
-  at_end bs yes at tells = (
+  pub at_end : (bs : List SymbolicHeap) (said : Bool) → command_at lines d ≡ Some (commands.Ends bs)
+      → IsTrue said ↔ (¬ SatisfiesOne ds d.stack d.heap bs) → IsTrue said ↔ BreaksEnd ds lines d
+  at_end bs said at tells = (
     λ t. (bs, at, tells.0 t),
     λ b. tells.1
         (let same : b.0 ≡ bs = ap disjuncts_of (one_command (commands.Ends b.0) (commands.Ends bs) b.1 at) in

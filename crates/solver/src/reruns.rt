@@ -8,7 +8,7 @@ ghost use Rattle.solver.specs.Runs.{BreaksEnd, ComesTo, EndsSo, IsAt, IsRight};
 
 use crate::counter_models::MOST_CHOICES;
 use cyc_basics::memory::OutOfMemory;
-use general_models::runs::{Ending, Pick, RunEnd, headroom, is_refuting, run, start_state};
+use general_models::runs::{Ending, Growth, Pick, RunEnd, headroom, is_refuting, run, start_state};
 use general_models::{CheckFault, none_satisfied, satisfied_in_general};
 use goto_lang::{Config, Program};
 use heap_formula::Command;
@@ -108,6 +108,13 @@ fn breaks_after(
     }
 }
 
+fn growing(growth: &Growth) -> Result<Ending, OutOfMemory>
+    ensures { IfOk result (λ ending. ending ≡ Ending.Grow growth.now) }
+{
+    let growth = growth.clone()?;
+    Ok(Ending::Grow(growth))
+}
+
 /// Whether the run from a state with these picks ends as is told. The question has no answer where too many choices of
 /// locals would have to be tried for an end.
 pub fn ends_so(
@@ -134,7 +141,7 @@ pub fn ends_so(
             Ok(repeats)
         }
         Outcome::Grows(growth) => {
-            let ending = Ending::Grow(growth.clone()?);
+            let ending = growing(growth)?;
             let grows = is_refuting(alloc, program, start, w, picks, &ending)?;
             Ok(grows)
         }

@@ -13,6 +13,8 @@ const SEPARATORS: &str =
 const COMMANDS: &str =
     "a command is \"stop\", \"goto\", \"free\" or \"if\", or sets a variable or a field";
 
+const ENDS: &str = "only version 3 has ends of programs";
+
 const CONJUNCTIONS: &str = "pure atoms are parted by \",\", spatial atoms by \"*\"";
 
 /// What helps where a prime stands behind these tokens and may not.
@@ -45,6 +47,7 @@ fn on_found(found: &Token<'_>, before: &[Token<'_>], expected: &Expected) -> Opt
         "emp" if expected.has("true") => Some(PURE_FIRST),
         "|" if expected.has("or") => Some(SEPARATORS),
         "or" if expected.has("|") => Some(SEPARATORS),
+        "ends" if expected.has("goal") && !expected.has("ends") => Some(ENDS),
         _ => None,
     }
 }
@@ -52,7 +55,7 @@ fn on_found(found: &Token<'_>, before: &[Token<'_>], expected: &Expected) -> Opt
 /// What helps by the token before.
 fn on_last(found: &Token<'_>, last: &Token<'_>, expected: &Expected) -> Option<&'static str> {
     match last.text {
-        "if" if found.text == "*" => Some("only version 2 has \"if *\""),
+        "if" if found.text == "*" => Some("version 1 has no \"if *\""),
         "=" if found.text == "=" => Some("an equation has one \"=\""),
         "->" => Some("the fields of a cell stand in parentheses, as in x -> (y)"),
         "." => Some("the fields of a cell are numbered, from 1 on"),

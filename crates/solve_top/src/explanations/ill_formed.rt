@@ -133,6 +133,30 @@ fn push_lines(out: &mut String, count: usize) -> Result<(), OutOfMemory> {
     }
 }
 
+/// Appends what helps with the number of a line or, if so, of an end, so many lines standing before.
+fn push_numbering(out: &mut String, is_end: bool, count: usize) -> Result<(), OutOfMemory> {
+    if is_end {
+        return push_text(out, "ends stand in the order of their lines, one at each");
+    }
+    push_parts(
+        out,
+        &[
+            Part::Text("line "),
+            Part::Number(count as u64),
+            Part::Text(" was expected"),
+        ],
+    )
+}
+
+/// Appends what helps with the number of a line that the text does not have or, if so, of an end at such a line or one
+/// that is no `stop`, of a program of so many lines.
+fn push_no_line(out: &mut String, is_end: bool, count: usize) -> Result<(), OutOfMemory> {
+    if is_end {
+        return push_text(out, "an end has the number of a line with \"stop\"");
+    }
+    push_lines(out, count)
+}
+
 /// Appends what helps with a fault at the token with this number.
 pub fn push_ill_formed(
     alloc: Global,
@@ -148,19 +172,17 @@ pub fn push_ill_formed(
         None => ("", rest),
     };
     let heads = heads(alloc, tokens)?;
+    let is_end = match before.last() {
+        Some(token) => is_word(token, "ends"),
+        None => false,
+    };
     match fault {
         IllFault::Duplicate => push_duplicate(out, heads.as_slice(), name, before),
         IllFault::Unknown => push_unknown(alloc, out, heads.as_slice(), name),
         IllFault::Arity => push_arity(out, heads.as_slice(), name, behind),
-        IllFault::Numbering => push_parts(
-            out,
-            &[
-                Part::Text("line "),
-                Part::Number(line_count(before) as u64),
-                Part::Text(" was expected"),
-            ],
-        ),
-        IllFault::Jump | IllFault::NoLine => push_lines(out, line_count(tokens)),
+        IllFault::Numbering => push_numbering(out, is_end, line_count(before)),
+        IllFault::Jump => push_lines(out, line_count(tokens)),
+        IllFault::NoLine => push_no_line(out, is_end, line_count(tokens)),
         IllFault::FallsOff => push_text(out, "the last line has to be \"stop\" or \"goto\""),
         IllFault::Parameter => push_text(out, "the definition has fewer parameters"),
         IllFault::Address => push_text(out, "an address is not 0, and no other cell has it"),

@@ -1,5 +1,5 @@
 //! What the tokens of a problem say of its statements. The words that begin statements are reserved, so each of them
-//! stands at the start of one.
+//! stands at the start of one; `ends` alone is not, and begins one where a number stands behind it.
 
 use cyc_basics::memory::OutOfMemory;
 use cyc_lex::{Kind, Token};
@@ -19,12 +19,20 @@ pub enum Statement {
     Heading,
     Definition,
     Line,
+    End,
     Goal,
 }
 
 pub fn is_name(token: &Token<'_>) -> bool {
     match token.kind {
         Kind::Name => true,
+        _ => false,
+    }
+}
+
+fn is_number(token: &Token<'_>) -> bool {
+    match token.kind {
+        Kind::Number => true,
         _ => false,
     }
 }
@@ -82,7 +90,12 @@ pub fn line_count(tokens: &[Token<'_>]) -> usize {
 
 /// The kind of the statement that these tokens end in.
 pub fn last_statement(tokens: &[Token<'_>]) -> Statement {
+    let mut is_numbered = false;
     for token in tokens.iter().rev() {
+        if is_numbered && is_word(token, "ends") {
+            return Statement::End;
+        }
+        is_numbered = is_number(token);
         if is_word(token, "pred") {
             return Statement::Definition;
         }
