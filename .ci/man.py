@@ -94,13 +94,14 @@ def example(name):
 
 UNSATISFIABLE = "cyclist problem 1; goal x != x : emp |- true : emp; end;"
 LONG = "cyclist proof 1; node true : $65535 -> (nil) |- true : emp by Absurd; end;"
+ENDED = "cyclist proof 3; line 1 : stop; ends 1 : true : emp; node from 1 given true : emp by Exec to 1; node true : emp |- true : emp by Done; end;"
 UNKNOWN = "cyclist proof 1; node true : zz() |- true : emp by Done; end;"
 RIGHT = "cyclist proof 1; node true : emp |- true : emp by Done; end; cyclist problem 1; "
 
 # The runs of each program by which its page's statuses are seen: the words and the input.
 RUNS = {
     "cyclist": [
-        (["check"], "list-segments.proof"), (["check"], "list-walk.proof"), (["fo-check"], "first-order/even-sum.fo"), (["ring", "2"], ""),
+        (["check"], "list-segments.proof"), (["check"], "list-walk.proof"), (["check"], ENDED), (["fo-check"], "first-order/even-sum.fo"), (["ring", "2"], ""),
         (["prove"], "list-segments.problem"), (["upgrade"], "first.proof"), (["fo"], "first-order/even-is-natural.foproblem"),
         (["disprove"], "acyclic-segments.problem"), (["sat"], "list-segments.problem"), (["model"], "list.model"),
         (["check"], "freed-twice.proof"), (["check"], "no-progress.proof"), (["sat"], UNSATISFIABLE), (["model"], "wrong-link.model"),
@@ -108,7 +109,7 @@ RUNS = {
         (["disprove", "--cells", "1"], "acyclic-segments.problem"),
     ],
     "cyclist-check": [
-        ([], "list-segments.proof"), ([], "list-walk.proof"), ([], "freed-twice.proof"), ([], "no-progress.proof"), (["check"], ""),
+        ([], "list-segments.proof"), ([], "list-walk.proof"), ([], ENDED), ([], "freed-twice.proof"), ([], "no-progress.proof"), (["check"], ""),
         ([], ""), ([], UNKNOWN), ([], LONG),
     ],
     "cyclist-solve": [
