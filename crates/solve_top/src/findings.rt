@@ -1,6 +1,6 @@
 // What is found of questions for frames: a problem that says what an antecedent holds beside what was asked for, or a
 // model that shows that there is none.
-ghost use Rattle.std.specs.Prelude.{◌≡◌, ◌++◌, ◌∷◌, [], ◌<◌, ◌-◌, ◌^◌, List, length, IfOk, IsTrue};
+ghost use Rattle.std.specs.Prelude.{◌≡◌, ◌++◌, ◌∷◌, [], ◌⊎◌, ◌<◌, ◌-◌, ◌^◌, List, length, IfOk, IsTrue};
 ghost use Rattle.heap_formula.specs.Words.{Each};
 ghost use Rattle.heap_formula.specs.declared.atoms.Pure.{Pure as PureAtom};
 ghost use Rattle.heap_formula.specs.declared.atoms.Spatial.{Spatial as SpatialAtom};
@@ -160,6 +160,16 @@ struct Question<'a, 'b> {
     names: &'a QuestionNames<'b>,
 }
 
+/// The text with its last line ended, so that a proof may stand behind it also where it ends in a comment.
+fn ended(mut text: Vec<u8>) -> Result<Vec<u8>, OutOfMemory>
+    ensures { IfOk result (λ whole. (whole.items ≡ text.items) ⊎ (whole.items ≡ text.items ++ (10 ∷ []))) }
+{
+    if !matches!(text.last(), Some(b'\n')) {
+        text.extend_from_slice(b"\n")?;
+    }
+    Ok(text)
+}
+
 /// The first of the candidates that is proved with an effort.
 fn first_proved(
     alloc: Global,
@@ -180,7 +190,7 @@ fn first_proved(
             wanted,
             candidate,
         )?;
-        let found = proved_text(alloc, question.problem, text, effort)?;
+        let found = proved_text(alloc, question.problem, ended(text)?, effort)?;
         if found.is_some() {
             return Ok(found);
         }
