@@ -259,7 +259,11 @@ def main():
     if lines[:1] != ["holds antecedent unsatisfiable"]:
         print(f"an antecedent that nothing satisfies: answered {lines[:1]}")
         wrong += 1
-    count = len(FOUND) + len(FAILS) + len(UNKNOWN) + len(FAULTS) + 1
+    lines, _ = answer(solver, question("true : list(x)", "true : list(x)") + "# a comment in a line without an end")
+    if "cyclist proof 3;" not in lines:
+        print("a question that ends in a comment: no line begins the proof")
+        wrong += 1
+    count = len(FOUND) + len(FAILS) + len(UNKNOWN) + len(FAULTS) + 2
     print(f"frames: {count - wrong} of {count}, the slowest in {slowest:.2f} s")
     sys.exit(wrong > 0)
 

@@ -12,6 +12,7 @@ import termios
 sys.path.insert(0, os.path.join(os.path.dirname(os.path.abspath(__file__)), "texts"))
 sys.dont_write_bytecode = True
 import checks
+import ends
 import first_order
 import limits
 import models
@@ -56,6 +57,7 @@ def rows():
         yield "fo", text, status, line
     yield from limits.rows()
     yield from versions.rows()
+    yield from ends.rows()
     for theory, status, line in first_order.NINTH:
         yield "fo-check", first_order.proof(theory), status, line
         yield "fo", first_order.problem(theory), status, line
