@@ -1,5 +1,5 @@
-"""Looks whether what the documents name is there: each link with its heading, each path of the repository, each file of a crate;
-whether each crate has a row among the contracts; and whether the first pages are short enough. Indented text is not looked at."""
+"""Looks whether what the documents name is there: each link with its heading, each path of the repository, each file of a crate, and
+each path from `src/`, `specs/` or `proofs/` on in some crate that its line names; whether each crate has a row among the contracts; and whether the first pages are short enough. Indented text is not looked at."""
 import glob
 import os
 import re
@@ -58,11 +58,25 @@ def fault_of_quoted(quoted, crates, names):
     return None
 
 
+def crates_in(quoted, crates):
+    """The crates that words in backticks name, alone or before a path or a module; all, if they name none."""
+    return {re.split(r"/|::", word.removeprefix("crates/"))[0] for word in quoted} & crates or crates
+
+
+def fault_of_part(word, named):
+    """Why a path within a crate leads nowhere in any of the crates that are named, or None."""
+    if is_pattern(word) or not re.match(r"(src|specs|proofs)/\w", word):
+        return None
+    return None if any(glob.glob(f"{top}/crates/{crate}/{word}*") for crate in named) else f"no file {word} in a crate that is named"
+
+
 def faults_of(path, crates, names):
     """What is wrong with a document."""
-    for number, line in enumerate(text_of(path), 1):
+    for line in text_of(path):
+        quoted = QUOTED.findall(line)
+        named = crates_in(quoted, crates)
         found = [fault_of_link(path, target) for target in LINK.findall(line)]
-        found += [fault_of_quoted(quoted, crates, names) for quoted in QUOTED.findall(line)]
+        found += [fault_of_quoted(word, crates, names) or fault_of_part(word, named) for word in quoted]
         yield from (f"{path}: {fault}, in '{line[:60]}'" for fault in found if fault)
     if path in MOST_WORDS:
         with open(f"{top}/{path}", encoding="utf-8") as document:
